@@ -1,0 +1,2 @@
+-- Document 01's table of refusals.
+pub mod Numbers
