@@ -4,8 +4,11 @@ use mathlib.Core.Path.{_≡_}
 use mathlib.Core.Bool.{Bool, false}
 use mathlib.Core.List.{List, []}
 use lib.ListN.{length, drop}
-use Rattle.octets.specs.Words.{if_then_else_, _=?_}
+use Rattle.octets.specs.Words.{if_then_else_, _and_, _≤?_, _=?_, every}
 use Rattle.text.specs.Utf8.{Range, run}
+use Rattle.text.specs.Digits.{isDigit, value}
+use Rattle.text.specs.declared.Number.{Number}
+use Rattle.text.specs.declared.Number.the-variants.{Is, Malformed}
 
 -- the text decides from the place `next` on; 0 says that it is not well-formed
 abbrev pub goesOn : List ℕ → ℕ → Bool
@@ -16,3 +19,7 @@ pub record Passed (s : List ℕ) (rs : List Range) (from past next : ℕ) : Type
   pub within : next ≤ length s
   pub onward : (next ≡ 0 → ⊥) → past ≤ next
   pub decides : run rs (drop from s) ≡ goesOn s next
+
+-- the number up to the limit that the digits of a base spell
+abbrev pub spelled : ℕ → ℕ → List ℕ → Number
+spelled base limit s = if every (isDigit base) s and value base s ≤? limit then Is (value base s) else Malformed

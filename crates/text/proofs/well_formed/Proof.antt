@@ -10,6 +10,7 @@ use Rattle.octets.proofs.Tests.{if-no}
 use Rattle.text.specs.Utf8.{_to_, run}
 use Rattle.text.specs.Steps.{goesOn}
 use Rattle.text.proofs.Runs.{run-end, row-decides, passes}
+use Rattle.text.proofs.Numerals.{on}
 use Rattle.text.proofs.well_formed.Statement.{statement}
 use Rattle.text.proofs.well_formed.Tie as tie
 

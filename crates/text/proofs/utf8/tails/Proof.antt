@@ -7,6 +7,7 @@ use borrow.Author.Tests.{ne-eqb}
 use lib.ListN.{length, drop, replicate}
 use Rattle.octets.proofs.Tests.{if-no, below, above}
 use Rattle.text.specs.Utf8.{tail, run}
+use Rattle.text.specs.Decimal.{count}
 use Rattle.text.proofs.Runs.{stops, tail-in, tail-out, tail-cut}
 use Rattle.text.proofs.utf8.tails.Statement.{statement}
 use Rattle.text.proofs.utf8.tails.Tie as tie
