@@ -4,6 +4,7 @@ use mathlib.Core.Path.{_≡_, refl, ap, sym, _∙_}
 use mathlib.Core.Bool.{Bool, true, false}
 use mathlib.Core.List.{List, [], _∷_, _++_}
 use native.Mathlib.Nat.{pow-suc, one-le-pow, mod-eq-of-lt, mul-le-mul-right, one-mul}
+use native.Mathlib.Numerals.{add-one}
 use native.Mathlib.Omega.{arith}
 use borrow.Author.Tests.{ltb-true, ltb-false, lt-ltb, le-ltb, le-leb, eq-eqb, ne-eqb, eqb-true, eqb-false}
 use lib.ListN.{length, getD, drop, List·getD-append}
@@ -20,45 +21,50 @@ use Rattle.text.proofs.Numerals.{digit-worth, value-below, length-digit
 
 -- ---- how many digits
 
-small : (k v : ℕ) → v < 10 → countIn k v ≡ 1
+abbrev turned : ℕ → ℕ → ℕ
+turned k v = countIn k (v <? 10) v
+
+small : (k v : ℕ) → v < 10 → turned k v ≡ 1
 unfolding countIn
 small zero v h = refl
-small (suc k) v h = if-yes _ _ _ (lt-ltb v 10 h)
+small (suc k) v h = rw (lt-ltb v 10 h)
+
+next : (k v : ℕ) → 9 < v → turned (suc k) v ≡ turned k (v / 10) + 1
+unfolding countIn
+next k v h = rw (le-ltb v 10 h)
+
+-- a number has one digit, or its tenth one less
+by-ten : {A : Type 0} (v : ℕ) → (v < 10 → A) → (9 < v → A) → A
+by-ten {A} v one more = go (v <? 10) refl
+  where
+    go : (t : Bool) → (v <? 10) ≡ t → A
+    go true e = one (ltb-true v 10 e)
+    go false e = more (omega (arith, ltb-false v 10 e))
+
+by-count : (P : ℕ → ℕ → Type 0) → ((v : ℕ) → v < 10 → P 1 v) → ((n v : ℕ) → 9 < v → P n (v / 10) → P (suc n) v) → (k v : ℕ) → v ≤ k → P (turned k v) v
+by-count P one more zero v h = rw (small zero v (omega arith)) (one v (omega arith))
+by-count P one more (suc k) v h =
+    by-ten v (λ l. rw (small (suc k) v l) (one v l)) (λ l. rw (next k v l, add-one) (more (turned k (v / 10)) v l (by-count P one more k (v / 10) (omega arith))))
 
 -- turns that are enough come to the same
-alike : (k m v : ℕ) → v ≤ k → v ≤ m → countIn k v ≡ countIn m v
-unfolding countIn
-alike zero m v a b = sym (small m v (omega arith))
-alike (suc k) zero v a b = small (suc k) v (omega arith)
-alike (suc k) (suc m) v a b = go (λ h. alike k m (v / 10) (omega arith) (omega arith)) (v <? 10) refl
-  where
-    go : (9 < v → countIn k (v / 10) ≡ countIn m (v / 10)) → (t : Bool) → (v <? 10) ≡ t → (if t then 1 else suc (countIn k (v / 10))) ≡ (if t then 1 else suc (countIn m (v / 10)))
-    go f true e = refl
-    go f false e = ap suc (f (omega (arith, ltb-false v 10 e)))
+alike : (k m v : ℕ) → v ≤ k → v ≤ m → turned k v ≡ turned m v
+alike zero m v a b = small zero v (omega arith) ∙ sym (small m v (omega arith))
+alike (suc k) zero v a b = small (suc k) v (omega arith) ∙ sym (small zero v (omega arith))
+alike (suc k) (suc m) v a b =
+    by-ten v (λ l. small (suc k) v l ∙ sym (small (suc m) v l)) (λ l. rw (next k v l, next m v l, alike k m (v / 10) (omega arith) (omega arith)))
 
 pub count-small : (v : ℕ) → v < 10 → count v ≡ 1
 count-small v h = small v v h
 
-pub count-next : (v : ℕ) → 9 < v → count v ≡ suc (count (v / 10))
-unfolding countIn
+pub count-next : (v : ℕ) → 9 < v → count v ≡ count (v / 10) + 1
 count-next zero h = absurd (omega arith)
-count-next (suc v) h = if-no _ _ _ (le-ltb (suc v) 10 (omega arith)) ∙ ap suc (alike v (suc v / 10) (suc v / 10) (omega arith) (omega arith))
+count-next (suc v) h = next v (suc v) h ∙ ap (λ (n : ℕ). n + 1) (alike v (suc v / 10) (suc v / 10) (omega arith) (omega arith))
 
 count-is : (n v : ℕ) → 10 ^ n ≤ v → v < 10 ^ suc n → count v ≡ suc n
 count-is zero v l h = count-small v (omega arith)
 count-is (suc n) v l h =
     let p : 1 ≤ 10 ^ n = one-le-pow n 10 (omega arith) in
-    count-next v (omega (arith, pow-suc 10 n)) ∙ ap suc (count-is n (v / 10) (omega (arith, pow-suc 10 n)) (omega (arith, pow-suc 10 (suc n))))
-
--- by turns: one digit, or one more than the tenth has
-by-count : (P : ℕ → ℕ → Type 0) → ((v : ℕ) → v < 10 → P 1 v) → ((n v : ℕ) → 9 < v → P n (v / 10) → P (suc n) v) → (k v : ℕ) → v ≤ k → P (countIn k v) v
-unfolding countIn
-by-count P one more zero v h = one v (omega arith)
-by-count P one more (suc k) v h = go (λ l. by-count P one more k (v / 10) (omega arith)) (v <? 10) refl
-  where
-    go : (9 < v → P (countIn k (v / 10)) (v / 10)) → (t : Bool) → (v <? 10) ≡ t → P (if t then 1 else suc (countIn k (v / 10))) v
-    go f true e = one v (ltb-true v 10 e)
-    go f false e = let l : 9 < v = omega (arith, ltb-false v 10 e) in more (countIn k (v / 10)) v l (f l)
+    omega (arith, count-next v (omega (arith, pow-suc 10 n)), count-is n (v / 10) (omega (arith, pow-suc 10 n)) (omega (arith, pow-suc 10 (suc n))))
 
 count-enough : (v : ℕ) → v < 10 ^ count v
 count-enough v = by-count (λ n x. x < 10 ^ n) (λ x h. omega arith) (λ n x h p. omega (arith, pow-suc 10 n)) v v (omega arith)

@@ -3,4 +3,6 @@ pub mod Runs
 pub mod Unique
 pub mod Numerals
 pub mod Decimals
+pub mod Sign
 pub mod Hexes
+pub mod Examples

@@ -1,6 +1,6 @@
 -- Document 01, "Names and fields", decimals: no leading zero, no plus sign; unsigned up to a limit, and signed with 64 bits, where `-0` is malformed.
-use Prim.Native.Nat.{ℕ, zero, suc, _/_}
-use mathlib.Core.Bool.{Bool}
+use Prim.Native.Nat.{ℕ, zero, suc, _+_, _/_}
+use mathlib.Core.Bool.{Bool, true, false}
 use mathlib.Core.List.{List, _∷_}
 use lib.ListN.{length, getD, drop}
 use lib.IntN.{ℤ, pos, negsuc, negℤ}
@@ -29,13 +29,14 @@ isNumber limit s = isDecimal s and number s ≤? limit
 abbrev pub numberOf : ℕ → List ℕ → Number
 numberOf limit s = if isNumber limit s then unsigned.Is (number s) else unsigned.Malformed
 
--- how many digits v has: one below ten, else one more than its tenth; counted in `turns` turns, which are enough where they are not below v
-unfoldable pub countIn : ℕ → ℕ → ℕ
-countIn zero v = 1
-countIn (suc turns) v = if v <? 10 then 1 else suc (countIn turns (v / 10))
+-- how many digits v has: one where it is small, below ten, else one more than its tenth; the turns bound the definition, and v of them are enough
+unfoldable pub countIn : ℕ → Bool → ℕ → ℕ
+countIn zero small v = 1
+countIn (suc turns) true v = 1
+countIn (suc turns) false v = countIn turns (v / 10 <? 10) (v / 10) + 1
 
 abbrev pub count : ℕ → ℕ
-count v = countIn v v
+count v = countIn v (v <? 10) v
 
 -- v in decimal, in the fewest digits
 abbrev pub decimal : ℕ → List ℕ

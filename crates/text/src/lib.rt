@@ -3,7 +3,7 @@ ghost use mathlib.Core.Path.{_≡_};
 ghost use lib.ListN.{length};
 ghost use Rattle.octets.specs.Bytes.{fits, placed};
 ghost use Rattle.text.specs.Utf8.{utf8};
-ghost use Rattle.text.specs.Decimal.{numberOf, decimal};
+ghost use Rattle.text.specs.Decimal.{numberOf, decimal, signedOf, signedDecimal};
 ghost use Rattle.text.specs.Hex.{idOf, chkOf, hexDigits};
 
 mod decimal;
@@ -85,6 +85,51 @@ pub fn write_number(v: u64, out: &mut [u8], at: usize) -> bool
 {
     let n = number_size(v);
     digits::write(v, 10, n, out, at)
+}
+
+// A number from -9223372036854775808 to 9223372036854775807.
+pub fn read_signed(s: &[u8]) -> Signed
+    ensures { λ r. ⌜ r ≡ signedOf (now (s .entry)) ⌝ }
+{
+    if s.len() == 0 {
+        return Signed::Malformed;
+    }
+    if s[0] == 0x2D {
+        let n = read_number(&s[1..], 9223372036854775808);
+        return decimal::negative_of(n);
+    }
+    let n = read_number(s, 9223372036854775807);
+    decimal::positive_of(n)
+}
+
+// How many bytes `write_signed` writes.
+pub fn signed_size(v: i64) -> usize
+    ensures { λ r. ⌜ r ≡ length (signedDecimal v) ⌝ }
+{
+    let n = number_size(decimal::magnitude(v));
+    if v >= 0 {
+        return n;
+    }
+    n + 1
+}
+
+// A signed number's decimal at the place `at` of a lent buffer; where it does not fit, no byte changes and the answer is false.
+pub fn write_signed(v: i64, out: &mut [u8], at: usize) -> bool
+    ensures { λ r. ⌜ (r ≡ fits (signedDecimal v) at (now (out .entry))) × (now (out .exit) ≡ placed (signedDecimal v) at (now (out .entry))) ⌝ }
+{
+    let m = decimal::magnitude(v);
+    if v >= 0 {
+        return write_number(m, out, at);
+    }
+    let n = number_size(m);
+    if out.len() <= at {
+        return false;
+    }
+    if out.len() - at <= n {
+        return false;
+    }
+    out[at] = 0x2D;
+    digits::write(m, 10, n, out, at + 1)
 }
 
 // An id: 7 of `0-9a-f`.
