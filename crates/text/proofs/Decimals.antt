@@ -2,18 +2,18 @@
 use Prim.Native.Nat.{ℕ, zero, suc, _+_, _*_, _/_, _%_, _^_, _≤_, _<_}
 use mathlib.Core.Path.{_≡_, refl, ap, sym, _∙_}
 use mathlib.Core.Bool.{Bool, true, false}
-use mathlib.Core.List.{List, [], _∷_, _++_}
+use mathlib.Core.List.{List, [], _∷_}
 use native.Mathlib.Nat.{pow-suc, one-le-pow, mod-eq-of-lt, mul-le-mul-right, one-mul}
 use native.Mathlib.Numerals.{add-one}
 use native.Mathlib.Omega.{arith}
-use borrow.Author.Tests.{ltb-true, ltb-false, lt-ltb, le-ltb, le-leb, eq-eqb, ne-eqb, eqb-true, eqb-false}
+use borrow.Author.Tests.{ltb-true, ltb-false, lt-ltb, le-ltb, le-leb, ne-eqb, eqb-true, eqb-false}
 use lib.ListN.{length, getD, drop, List·getD-append}
-use lib.IntN.{ℤ, pos, negsuc, negℤ}
+use lib.IntN.{pos, negsuc, negℤ}
 use Rattle.octets.specs.Words.{if_then_else_, _and_, no, _<?_, _≤?_, _=?_, every}
-use Rattle.octets.proofs.Tests.{if-yes, if-no, true-not-false, and-left, and-right, and-both, and-not-left, and-not-right, and-next, no-true, no-false}
+use Rattle.octets.proofs.Tests.{if-yes, if-no, true-not-false, and-left, and-right, and-both, and-not-left, and-not-right, and-next, no-false}
 use Rattle.octets.proofs.Lists.{every-at}
 use Rattle.text.specs.Digits.{digit, worth, isDigit, value, digits}
-use Rattle.text.specs.Decimal.{leadingZero, isDecimal, number, isNumber, numberOf, countIn, count, decimal, hasMinus, isSigned, signed, signedOf, signedDecimal}
+use Rattle.text.specs.Decimal.{leadingZero, begins, isDecimal, number, isNumber, numberOf, countIn, count, decimal, hasMinus, isSigned, signed, signedOf, signedDecimal}
 use Rattle.text.specs.Steps.{spelled}
 use Rattle.text.specs.declared.Number.the-variants as unsigned
 use Rattle.text.specs.declared.Signed.the-variants as whole
@@ -101,7 +101,7 @@ length-decimal v = length-digits 10 (count v) v
 decimal-is : (v : ℕ) → isDecimal (decimal v) ≡ true
 decimal-is v =
     let h : 0 < length (decimal v) = rw (length-decimal v) (count-some v) in
-    and-both _ _ (lt-ltb _ _ h) (and-both _ _ (no-false _ (no-leading-zero v)) (all-digits 10 (omega arith) (omega arith) (count v) v))
+    and-both _ _ (and-both _ _ (lt-ltb _ _ h) (no-false _ (no-leading-zero v))) (all-digits 10 (omega arith) (omega arith) (count v) v)
 
 decimal-back : (v : ℕ) → number (decimal v) ≡ v
 decimal-back v = value-digits 10 (omega arith) (omega arith) (count v) v (count-enough v)
@@ -116,7 +116,7 @@ number-back limit v h = if-yes _ _ _ (number-is limit v h) ∙ ap unsigned.Is (d
 -- ---- what is read is written so
 
 decimal-digits : (s : List ℕ) → isDecimal s ≡ true → every (isDigit 10) s ≡ true
-decimal-digits s e = and-right (no (leadingZero s)) _ (and-right (0 <? length s) _ e)
+decimal-digits s e = and-right (begins s) _ e
 
 no-yes : (t : Bool) → no t ≡ true → t ≡ false
 no-yes true e = true-not-false false e refl
@@ -137,7 +137,7 @@ count-number [] e = true-not-false false e refl
 count-number (b ∷ []) e = count-small (number (b ∷ [])) (value-below 10 (b ∷ []) (decimal-digits (b ∷ []) e))
 count-number (b ∷ c ∷ s) e =
     let n = length (c ∷ s) in
-    let z = no-yes (leadingZero (b ∷ c ∷ s)) (and-left _ (every (isDigit 10) (b ∷ c ∷ s)) (and-right (0 <? length (b ∷ c ∷ s)) _ e)) in
+    let z = no-yes (leadingZero (b ∷ c ∷ s)) (and-right (0 <? length (b ∷ c ∷ s)) _ (and-left (begins (b ∷ c ∷ s)) _ e)) in
     let f = eqb-false b 0x30 (sym (and-next (1 <? suc n) (b =? 0x30) (lt-ltb 1 (suc n) (omega arith))) ∙ z) in
     let d = decimal-digits (b ∷ c ∷ s) e in
     let w = worth-some b (and-left _ (every (isDigit 10) (c ∷ s)) d) f in
@@ -150,13 +150,20 @@ number-forth s e = rw (count-number s e) (digits-value 10 (omega arith) (omega a
 
 -- ---- what the code goes by
 
-pub numberOf-zero : (limit : ℕ) (s : List ℕ) → leadingZero s ≡ true → numberOf limit s ≡ unsigned.Malformed
-numberOf-zero limit s e = if-no _ _ _ (and-not-left _ _ (and-not-right (0 <? length s) _ (and-not-left _ _ (no-true _ e))))
+pub numberOf-not : (limit : ℕ) (s : List ℕ) → begins s ≡ false → numberOf limit s ≡ unsigned.Malformed
+numberOf-not limit s e = if-no _ _ _ (and-not-left _ _ (and-not-left _ _ e))
 
-pub numberOf-spelled : (limit : ℕ) (s : List ℕ) → 0 < length s → leadingZero s ≡ false → numberOf limit s ≡ spelled 10 limit s
-numberOf-spelled limit s h e =
-    let d : isDecimal s ≡ every (isDigit 10) s = and-next _ _ (lt-ltb 0 (length s) h) ∙ and-next _ _ (no-false _ e) in
-    ap (λ (t : Bool). if t and number s ≤? limit then unsigned.Is (number s) else unsigned.Malformed) d
+pub numberOf-spelled : (limit : ℕ) (s : List ℕ) → begins s ≡ true → numberOf limit s ≡ spelled 10 limit s
+numberOf-spelled limit s e = ap (λ (t : Bool). if t and number s ≤? limit then unsigned.Is (number s) else unsigned.Malformed) (and-next _ _ e)
+
+pub begins-empty : (s : List ℕ) → length s ≡ 0 → begins s ≡ false
+begins-empty s e = and-not-left _ _ (le-ltb 0 (length s) (omega arith))
+
+pub begins-one : (s : List ℕ) → length s ≡ 1 → begins s ≡ true
+begins-one s e = and-both _ _ (lt-ltb 0 (length s) (omega arith)) (no-false _ (and-not-left _ _ (le-ltb 1 (length s) (omega arith))))
+
+pub begins-more : (s : List ℕ) (t : Bool) → 1 < length s → (getD s 0 0 =? 0x30) ≡ t → begins s ≡ no t
+begins-more s t h e = and-next _ _ (lt-ltb 0 (length s) (omega arith)) ∙ ap no (and-next _ _ (lt-ltb 1 (length s) h) ∙ e)
 
 -- ---- signed
 
@@ -164,7 +171,7 @@ no-minus : (s : List ℕ) → isDecimal s ≡ true → hasMinus s ≡ false
 no-minus s e = ne-eqb (getD s 0 0) 0x2D (λ z. true-not-false (isDigit 10 (getD s 0 0)) (every-at (isDigit 10) s 0 0 (decimal-digits s e) h) (ap (isDigit 10) z))
   where
     h : 0 < length s
-    h = ltb-true 0 (length s) (and-left _ _ e)
+    h = ltb-true 0 (length s) (and-left _ _ (and-left (begins s) _ e))
 
 -- reading what was written gives the number
 pub signed-back-pos : (m : ℕ) → m ≤ 9223372036854775807 → signedOf (signedDecimal (pos m)) ≡ whole.Is (pos m)

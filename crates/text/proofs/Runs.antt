@@ -7,11 +7,11 @@ use native.Mathlib.Omega.{arith}
 use borrow.Author.Tests.{ltb-true}
 use lib.ListN.{length, getD, take, drop, replicate}
 use lib.Seq.{drop-length}
-use Rattle.octets.specs.Words.{_and_, _or_, every, some, _<?_}
-use Rattle.octets.proofs.Tests.{and-left, and-right, and-next, and-not-left, or-next, inside, below, above, inside-low, inside-high}
+use Rattle.octets.specs.Words.{_and_, _or_, every, some, between, _<?_}
+use Rattle.octets.proofs.Tests.{true-not-false, and-left, and-right, and-both, or-left, and-next, and-not-left, inside, below, above, inside-low, inside-high}
 use Rattle.octets.proofs.Lists.{drop-next}
-use Rattle.text.specs.Utf8.{Range, _to_, Row, row, holds, tail, rows, run}
-use Rattle.text.specs.Steps.{Passed, goesOn}
+use Rattle.text.specs.Utf8.{Range, _to_, Row, row, holds, tail, rows, run, utf8}
+use Rattle.text.specs.Steps.{Passed}
 
 module _ (s : List ℕ) (i : ℕ) (h : i < length s) where
   -- a byte in the next range that a character lacks, or outside it
@@ -60,6 +60,35 @@ module _ (b : ℕ) (s : List ℕ) where
       → some led (qs ++ (q ∷ ps)) ≡ run (q .behind) s
   one-led [] q ps e f h = rw (none-led (q .lead) ps f h) (or-false _ ∙ and-next _ _ h)
   one-led (p ∷ qs) q ps e f h = rw (and-not-left _ (run (p .behind) s) (other (q .lead) p b (and-left (apart (q .lead) p) _ e) h)) (one-led qs q ps (and-right (apart (q .lead) p) _ e) f h)
+
+-- ---- texts behind one another
+
+or-right : (a b : Bool) → b ≡ true → a or b ≡ true
+or-right true b e = refl
+or-right false b e = e
+
+some-more : (p q : Row → Bool) → ((r : Row) → p r ≡ true → q r ≡ true) → (rs : List Row) → some p rs ≡ true → some q rs ≡ true
+some-more p q f [] e = e
+some-more p q f (r ∷ rs) e = go (λ h. some-more p q f rs h) (p r) refl e
+  where
+    go : (some p rs ≡ true → some q rs ≡ true) → (t : Bool) → p r ≡ t → t or some p rs ≡ true → q r or some q rs ≡ true
+    go k true g h = or-left _ _ (f r g)
+    go k false g h = or-right (q r) _ (k h)
+
+-- a text that ends with its last character, and another behind it
+pub run-join : (rs : List Range) (s t : List ℕ) → run rs s ≡ true → run [] t ≡ true → run rs (s ++ t) ≡ true
+unfolding run
+run-join [] [] t e f = f
+run-join (r ∷ rs) [] t e f = true-not-false false e refl
+run-join (r ∷ rs) (b ∷ s) t e f = and-both _ _ (and-left (holds r b) _ e) (run-join rs s t (and-right (holds r b) _ e) f)
+run-join [] (b ∷ s) t e f =
+    some-more (led b s) (led b (s ++ t)) (λ q g. and-both _ _ (and-left (holds (q .lead) b) _ g) (run-join (q .behind) s t (and-right (holds (q .lead) b) _ g) f)) rows e
+
+-- bytes below 0x80 are characters
+pub ascii-run : (s : List ℕ) → every (between 0x00 0x7F) s ≡ true → utf8 s ≡ true
+unfolding run
+ascii-run [] e = refl
+ascii-run (b ∷ s) e = or-left _ _ (and-both _ _ (and-left (between 0x00 0x7F b) _ e) (ascii-run s (and-right (between 0x00 0x7F b) _ e)))
 
 -- ---- what the code's functions tell one another
 

@@ -12,10 +12,10 @@ use lib.Signed.{leZ, nonNeg}
 use mir.Syntax.{w64}
 use mir.Val.{toZ, ofZ, Fits, SFits}
 use mir.ValLaws.{toZ-ofZ}
-use Rattle.octets.specs.Words.{if_then_else_, _and_, _<?_, _≤?_}
+use Rattle.octets.specs.Words.{if_then_else_, _and_, _<?_}
 use Rattle.octets.specs.Bytes.{fits, placed}
 use Rattle.octets.proofs.Tests.{if-yes, true-not-false, and-right}
-use Rattle.octets.proofs.Lists.{placed-next}
+use Rattle.octets.proofs.Lists.{length-placed, placed-next}
 use Rattle.text.specs.Digits.{digits}
 use Rattle.text.specs.Decimal.{isDecimal, number, isNumber, numberOf, decimal, signedOf, signedDecimal}
 use Rattle.text.proofs.Decimals.{length-decimal}
@@ -66,6 +66,9 @@ minus-written m n at l l′ r e h w =
     let i : at + suc (length (decimal m)) ≤ length l = omega arith in
     let k : at + 1 + length (decimal m) ≤ length (set l at 0x2D) = rw length-set (omega arith) in
     (p .0 ∙ le-leb _ _ k ∙ sym (le-leb _ _ i), p .1 ∙ sym (placed-next 0x2D (decimal m) at l i))
+
+pub same-room : (w : List ℕ) (b at : ℕ) (l l′ : List ℕ) → l′ ≡ placed w (at + 1) (set l at b) → length l′ ≡ length l
+same-room w b at l l′ e = ap length e ∙ length-placed w (at + 1) (set l at b) ∙ rw length-set
 
 -- ---- read
 

@@ -15,9 +15,13 @@ use Rattle.text.specs.declared.Signed.the-variants as whole
 abbrev pub leadingZero : List ℕ → Bool
 leadingZero s = 1 <? length s and getD s 0 0 =? 0x30
 
+-- at least one byte, and no leading zero
+abbrev pub begins : List ℕ → Bool
+begins s = 0 <? length s and no (leadingZero s)
+
 -- one or more digits, no leading zero; a plus sign is no digit
 abbrev pub isDecimal : List ℕ → Bool
-isDecimal s = 0 <? length s and (no (leadingZero s) and every (isDigit 10) s)
+isDecimal s = begins s and every (isDigit 10) s
 
 abbrev pub number : List ℕ → ℕ
 number s = value 10 s

@@ -4,17 +4,20 @@ use crate::Signed;
 ghost use mathlib.Core.Path.{_≡_};
 ghost use Prim.Native.Nat.{_-_, _<_, _≤_};
 ghost use lib.IntN.{negsuc, natAbs};
-ghost use Rattle.text.specs.Decimal.{leadingZero};
+ghost use Rattle.text.specs.Decimal.{begins};
 ghost use Rattle.text.specs.Steps.{atMost, plain, negated};
 
-// Whether a `0` stands before other bytes.
-pub(crate) fn leading_zero(s: &[u8]) -> bool
-    ensures { λ r. ⌜ r ≡ leadingZero (now (s .entry)) ⌝ }
+// Whether there is a byte, and no `0` before others.
+pub(crate) fn starts(s: &[u8]) -> bool
+    ensures { λ r. ⌜ r ≡ begins (now (s .entry)) ⌝ }
 {
-    if s.len() <= 1 {
+    if s.len() == 0 {
         return false;
     }
-    s[0] == 0x30
+    if s.len() == 1 {
+        return true;
+    }
+    s[0] != 0x30
 }
 
 // A number without its sign.

@@ -57,10 +57,7 @@ pub fn well_formed(s: &[u8]) -> bool
 pub fn read_number(s: &[u8], limit: u64) -> Number
     ensures { λ r. ⌜ r ≡ numberOf limit (now (s .entry)) ⌝ }
 {
-    if s.len() == 0 {
-        return Number::Malformed;
-    }
-    if decimal::leading_zero(s) {
+    if !decimal::starts(s) {
         return Number::Malformed;
     }
     digits::read(s, 10, limit)

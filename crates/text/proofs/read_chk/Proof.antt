@@ -1,8 +1,6 @@
 -- Four hex digits spell a number below 2 ^ 16.
 use mathlib.Core.Path.{refl, sym, _∙_}
 use borrow.Author.Needs.{needs}
-use Rattle.octets.proofs.Tests.{below}
-use Rattle.text.specs.Digits.{digits}
 use Rattle.text.proofs.Numerals.{spelled-most}
 use Rattle.text.proofs.Hexes.{hex-read, hex-long}
 use Rattle.text.specs.declared.Chk.the-variants as chk

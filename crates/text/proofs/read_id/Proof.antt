@@ -1,8 +1,6 @@
 -- Seven hex digits spell a number below 2 ^ 28.
 use mathlib.Core.Path.{refl, sym, _∙_}
 use borrow.Author.Needs.{needs}
-use Rattle.octets.proofs.Tests.{below}
-use Rattle.text.specs.Digits.{digits}
 use Rattle.text.proofs.Numerals.{spelled-most}
 use Rattle.text.proofs.Hexes.{hex-read, hex-long}
 use Rattle.text.specs.declared.Id.the-variants as id

@@ -7,10 +7,9 @@ use mir.Syntax.{w64}
 use mir.ValLaws.{toZ-ofZ}
 use lib.IntN.{natAbs}
 use lib.ListN.{length}
-use Rattle.text.specs.Digits.{digits}
-use Rattle.text.specs.Decimal.{decimal}
 use Rattle.text.proofs.Decimals.{count-most, length-decimal}
 use Rattle.text.proofs.Sign.{minus-bits, plain-decimal, minus-decimal}
+use Rattle.text.specs.Decimal.{decimal}
 use Rattle.text.proofs.signed_size.Statement.{statement}
 use Rattle.text.proofs.signed_size.Tie as tie
 

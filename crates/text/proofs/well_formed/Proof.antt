@@ -1,4 +1,4 @@
--- From each place on, the rest decides: a byte up to 0x7F is a character, and any other begins one that `character` passes.
+-- From each place on, the rest decides: a byte below 0x80 is a character, and any other begins one that `character` measures.
 use Prim.Native.Nat.{_-_, _≤_}
 use mathlib.Core.Path.{_≡_, refl, sym, ap, _∙_}
 use mathlib.Core.List.{[]}
@@ -7,10 +7,9 @@ use borrow.Author.Needs.{needs}
 use borrow.Author.Tests.{ne-eqb}
 use lib.ListN.{length, drop}
 use Rattle.octets.proofs.Tests.{if-no}
-use Rattle.text.specs.Utf8.{_to_, run}
+use Rattle.text.specs.Utf8.{run}
 use Rattle.text.specs.Steps.{goesOn}
-use Rattle.text.proofs.Runs.{run-end, row-decides, passes}
-use Rattle.text.proofs.Numerals.{on}
+use Rattle.text.proofs.Runs.{run-end, row-decides}
 use Rattle.text.proofs.well_formed.Statement.{statement}
 use Rattle.text.proofs.well_formed.Tie as tie
 

@@ -1,7 +1,6 @@
 -- As many digits as the number has.
 use mathlib.Core.Path.{_∙_}
 use borrow.Author.Needs.{needs}
-use Rattle.text.specs.Digits.{digits}
 use Rattle.text.proofs.Decimals.{length-decimal}
 use Rattle.text.proofs.write_number.Statement.{statement}
 use Rattle.text.proofs.write_number.Tie as tie

@@ -1,15 +1,15 @@
 -- The digits of the magnitude, behind a minus where there is one.
-use Prim.Native.Nat.{ℕ, _+_}
+use Prim.Native.Nat.{ℕ}
 use mathlib.Core.Path.{sym, ap, _∙_}
 use mathlib.Core.List.{_∷_}
 use native.Mathlib.Omega.{arith}
 use borrow.Author.Needs.{needs}
 use lib.IntN.{natAbs}
-use lib.ListN.{length, set, length-set}
+use lib.ListN.{length}
 use Rattle.octets.proofs.Lists.{unplaced, length-placed}
+use Rattle.text.proofs.Sign.{held, plain-decimal, minus-decimal, minus-written, same-room}
 use Rattle.text.specs.Digits.{digits}
 use Rattle.text.specs.Decimal.{decimal}
-use Rattle.text.proofs.Sign.{held, plain-decimal, minus-decimal, minus-written}
 use Rattle.text.proofs.write_signed.Statement.{statement}
 use Rattle.text.proofs.write_signed.Tie as tie
 
@@ -48,11 +48,11 @@ returns-3 c =
 
 same-length-2 : tie.Need-same-length-2
 same-length-2 c =
-    let at-write = c .before .before .write in
     let at-number-size = c .before .before .before .before .before .before .number-size in
     let at-magnitude = c .before .before .before .before .before .before .before .before .magnitude in
     let at-args = c .before .before .before .before .before .before .before .before .before .before .args in
-    ap length (at-write .ensures .1) ∙ length-placed {A = ℕ} (digits 10 (at-number-size .result) (at-magnitude .result)) (at-args .at + 1) (set (at-args .out .now) (at-args .at) 0x2D) ∙ rw length-set
+    let at-write = c .before .before .write in
+    same-room (digits 10 (at-number-size .result) (at-magnitude .result)) 0x2D (at-args .at) (at-args .out .now) _ (at-write .ensures .1)
 
 returns-4 : tie.Need-returns-4
 returns-4 c =

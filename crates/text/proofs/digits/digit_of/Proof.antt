@@ -3,7 +3,6 @@ use mathlib.Core.Path.{sym}
 use borrow.Author.Needs.{needs}
 use borrow.Author.Tests.{lt-ltb, le-ltb}
 use Rattle.octets.proofs.Tests.{if-yes, if-no}
-use Rattle.text.specs.Digits.{digits}
 use Rattle.text.proofs.digits.digit_of.Statement.{statement}
 use Rattle.text.proofs.digits.digit_of.Tie as tie
 

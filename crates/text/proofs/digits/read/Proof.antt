@@ -8,7 +8,8 @@ use lib.ListN.{length, getD, drop}
 use Rattle.octets.specs.Words.{every}
 use Rattle.octets.proofs.Lists.{every-next, every-not, every-end}
 use Rattle.text.specs.Digits.{worth, isDigit, value}
-use Rattle.text.proofs.Numerals.{on, in-room, no-room, on-at, on-done, spelled-past, spelled-not, spelled-is}
+use Rattle.text.proofs.Numerals.{in-room, no-room, on-at, on-done, spelled-past, spelled-not, spelled-is}
+use Rattle.text.proofs.Numerals.{on}
 use Rattle.text.proofs.digits.read.Statement.{statement}
 use Rattle.text.proofs.digits.read.Tie as tie
 

@@ -1,7 +1,8 @@
 -- Each byte is a digit below ten, a letter or no digit.
 use mathlib.Core.Path.{sym, _∙_}
 use borrow.Author.Needs.{needs}
-use Rattle.octets.proofs.Tests.{if-yes, if-no, inside, below, above}
+use Rattle.octets.proofs.Tests.{if-yes, if-no, inside, above}
+use Rattle.octets.proofs.Tests.{below}
 use Rattle.text.proofs.digits.worth_of.Statement.{statement}
 use Rattle.text.proofs.digits.worth_of.Tie as tie
 

@@ -2,9 +2,10 @@
 use mathlib.Core.Path.{_∙_}
 use native.Mathlib.Omega.{arith}
 use borrow.Author.Needs.{needs}
-use Rattle.octets.proofs.Tests.{inside, below, above}
-use Rattle.text.specs.Utf8.{_to_, tail}
+use Rattle.octets.proofs.Tests.{inside, above}
 use Rattle.text.proofs.Runs.{byte-in, byte-out, cut-short, stops}
+use Rattle.octets.proofs.Tests.{below}
+use Rattle.text.specs.Utf8.{_to_}
 use Rattle.text.proofs.utf8.behind.Statement.{statement}
 use Rattle.text.proofs.utf8.behind.Tie as tie
 

@@ -2,7 +2,8 @@
 use mathlib.Core.Path.{refl}
 use native.Mathlib.Omega.{arith}
 use borrow.Author.Needs.{needs}
-use Rattle.text.proofs.Runs.{row-decides, passes, by-none}
+use Rattle.text.proofs.Runs.{row-decides, by-none}
+use Rattle.text.proofs.Runs.{passes}
 use Rattle.text.proofs.utf8.character.Statement.{statement}
 use Rattle.text.proofs.utf8.character.Tie as tie
 

@@ -5,10 +5,12 @@ use native.Mathlib.Omega.{arith}
 use borrow.Author.Needs.{needs}
 use borrow.Author.Tests.{ne-eqb}
 use lib.ListN.{length, drop, replicate}
-use Rattle.octets.proofs.Tests.{if-no, below, above}
-use Rattle.text.specs.Utf8.{tail, run}
+use Rattle.octets.proofs.Tests.{if-no, above}
+use Rattle.text.specs.Utf8.{run}
 use Rattle.text.specs.Decimal.{count}
 use Rattle.text.proofs.Runs.{stops, tail-in, tail-out, tail-cut}
+use Rattle.octets.proofs.Tests.{below}
+use Rattle.text.specs.Utf8.{tail}
 use Rattle.text.proofs.utf8.tails.Statement.{statement}
 use Rattle.text.proofs.utf8.tails.Tie as tie
 
