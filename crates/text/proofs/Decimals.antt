@@ -8,7 +8,9 @@ use native.Mathlib.Numerals.{add-one}
 use native.Mathlib.Omega.{arith}
 use borrow.Author.Tests.{ltb-true, ltb-false, lt-ltb, le-ltb, le-leb, ne-eqb, eqb-true, eqb-false}
 use lib.ListN.{length, getD, drop, List·getD-append}
-use lib.IntN.{pos, negsuc, negℤ}
+use lib.IntN.{ℤ, pos, negsuc, negℤ}
+use mir.Syntax.{w64}
+use mir.Val.{SFits}
 use Rattle.octets.specs.Words.{if_then_else_, _and_, no, _<?_, _≤?_, _=?_, every}
 use Rattle.octets.proofs.Tests.{if-yes, if-no, true-not-false, and-left, and-right, and-both, and-not-left, and-not-right, and-next, no-false}
 use Rattle.octets.proofs.Lists.{every-at}
@@ -173,16 +175,15 @@ no-minus s e = ne-eqb (getD s 0 0) 0x2D (λ z. true-not-false (isDigit 10 (getD 
     h : 0 < length s
     h = ltb-true 0 (length s) (and-left _ _ (and-left (begins s) _ e))
 
--- reading what was written gives the number
-pub signed-back-pos : (m : ℕ) → m ≤ 9223372036854775807 → signedOf (signedDecimal (pos m)) ≡ whole.Is (pos m)
-signed-back-pos m h =
-    let e = no-minus (decimal m) (decimal-is m) in
-    rw e (if-yes _ _ _ (number-is 9223372036854775807 m h) ∙ rw (decimal-back m))
-
-pub signed-back-neg : (m : ℕ) → m ≤ 9223372036854775807 → signedOf (signedDecimal (negsuc m)) ≡ whole.Is (negsuc m)
-signed-back-neg m h =
+-- reading what was written gives the number, for every number of 64 bits
+pub signed-back : (z : ℤ) → SFits w64 z → signedOf (signedDecimal z) ≡ whole.Is z
+signed-back (pos m) f =
+    let h : m ≤ 9223372036854775807 = omega (arith, f .sfits) in
+    rw (no-minus (decimal m) (decimal-is m)) (if-yes _ _ _ (number-is 9223372036854775807 m h) ∙ rw (decimal-back m))
+signed-back (negsuc m) f =
+    let h : suc m ≤ 9223372036854775808 = omega (arith, f .sfits) in
     let k : 0 < number (decimal (suc m)) = rw (decimal-back (suc m)) (omega arith) in
-    if-yes _ _ _ (and-both _ _ (number-is 9223372036854775808 (suc m) (omega arith)) (lt-ltb 0 _ k)) ∙ rw (decimal-back (suc m))
+    if-yes _ _ _ (and-both _ _ (number-is 9223372036854775808 (suc m) h) (lt-ltb 0 _ k)) ∙ rw (decimal-back (suc m))
 
 with-minus : (n : ℕ) → 0 < n → signedDecimal (negℤ (pos n)) ≡ 0x2D ∷ decimal n
 with-minus zero h = absurd (omega arith)
