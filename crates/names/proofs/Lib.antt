@@ -1,0 +1,9 @@
+pub mod Choices
+pub mod Runs
+pub mod Callsigns
+pub mod SameCall
+pub mod Destinations
+pub mod Cuts
+pub mod Reserved
+pub mod Pairs
+pub mod Unique

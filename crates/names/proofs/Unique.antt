@@ -1,0 +1,43 @@
+-- Every public function leaves one outcome and asks nothing.
+use mathlib.Core.Path.{refl, sym, _∙_}
+use Rattle.octets.specs.Unique.{One, Free}
+use Rattle.names.proofs.read_callsign.Kinds as read-callsign-kinds
+use Rattle.names.proofs.read_callsign.Reads as read-callsign-reads
+use Rattle.names.proofs.same_call.Kinds as same-call-kinds
+use Rattle.names.proofs.same_call.Reads as same-call-reads
+use Rattle.names.proofs.read_destination.Kinds as read-destination-kinds
+use Rattle.names.proofs.read_destination.Reads as read-destination-reads
+use Rattle.names.proofs.is_reserved.Kinds as is-reserved-kinds
+use Rattle.names.proofs.is_reserved.Reads as is-reserved-reads
+use Rattle.names.proofs.keys_differ.Kinds as keys-differ-kinds
+use Rattle.names.proofs.keys_differ.Reads as keys-differ-reads
+
+pub read-callsign-one : One 1 read-callsign-kinds.ps read-callsign-kinds.r read-callsign-reads.Post
+read-callsign-one κs a x y v w p q = (p ∙ sym q, refl)
+
+pub read-callsign-free : Free 1 read-callsign-kinds.ps read-callsign-reads.Pre
+read-callsign-free κs a = tt
+
+pub same-call-one : One 2 same-call-kinds.ps same-call-kinds.r same-call-reads.Post
+same-call-one κs a x y v w p q = (p ∙ sym q, refl)
+
+pub same-call-free : Free 2 same-call-kinds.ps same-call-reads.Pre
+same-call-free κs a = tt
+
+pub read-destination-one : One 1 read-destination-kinds.ps read-destination-kinds.r read-destination-reads.Post
+read-destination-one κs a x y v w p q = (p ∙ sym q, refl)
+
+pub read-destination-free : Free 1 read-destination-kinds.ps read-destination-reads.Pre
+read-destination-free κs a = tt
+
+pub is-reserved-one : One 1 is-reserved-kinds.ps is-reserved-kinds.r is-reserved-reads.Post
+is-reserved-one κs a x y v w p q = (p ∙ sym q, refl)
+
+pub is-reserved-free : Free 1 is-reserved-kinds.ps is-reserved-reads.Pre
+is-reserved-free κs a = tt
+
+pub keys-differ-one : One 0 keys-differ-kinds.ps keys-differ-kinds.r keys-differ-reads.Post
+keys-differ-one κs a x y v w p q = (p ∙ sym q, refl)
+
+pub keys-differ-free : Free 0 keys-differ-kinds.ps keys-differ-reads.Pre
+keys-differ-free κs a = tt
