@@ -4,4 +4,5 @@ pub mod Callsign
 pub mod Destination
 pub mod Cut
 pub mod Reserved
+pub mod Texts
 pub mod Headers

@@ -3,9 +3,11 @@ ghost use mathlib.Core.Path.{_≡_};
 ghost use Rattle.names.specs.Callsign.{callsignOf, sameCall};
 ghost use Rattle.names.specs.Destination.{destinationOf};
 ghost use Rattle.names.specs.Reserved.{reserved};
+ghost use Rattle.names.specs.Texts.{streamId, headerKey, headerValue};
 ghost use Rattle.names.specs.Headers.{allDiffer, keysOf};
 
 mod parts;
+mod texts;
 mod words;
 
 // A callsign, taken apart: how many bytes its base has, and its SSID, 0 where none is written.
@@ -153,6 +155,19 @@ pub fn read_destination(s: &[u8]) -> Destination
     }
 }
 
+// Whether a text is a stream id.
+pub fn is_stream_id(s: &[u8]) -> bool
+    ensures { λ r. ⌜ r ≡ streamId (now (s .entry)) ⌝ }
+{
+    if s.len() < 1 {
+        return false;
+    }
+    if 255 < s.len() {
+        return false;
+    }
+    texts::is_ruled(s, false)
+}
+
 // Whether a key is one of the thirteen reserved.
 pub fn is_reserved(s: &[u8]) -> bool
     ensures { λ r. ⌜ r ≡ reserved (now (s .entry)) ⌝ }
@@ -166,6 +181,35 @@ pub fn is_reserved(s: &[u8]) -> bool
         i += 1;
     }
     false
+}
+
+// Whether a text is a header's key.
+pub fn is_header_key(s: &[u8]) -> bool
+    ensures { λ r. ⌜ r ≡ headerKey (now (s .entry)) ⌝ }
+{
+    if s.len() < 1 {
+        return false;
+    }
+    if 32 < s.len() {
+        return false;
+    }
+    if !texts::is_ruled(s, false) {
+        return false;
+    }
+    if is_reserved(s) {
+        return false;
+    }
+    true
+}
+
+// Whether a text is a header's value.
+pub fn is_header_value(s: &[u8]) -> bool
+    ensures { λ r. ⌜ r ≡ headerValue (now (s .entry)) ⌝ }
+{
+    if 128 < s.len() {
+        return false;
+    }
+    texts::is_ruled(s, true)
 }
 
 // Whether the headers' keys all differ: the first pair of equal keys ends the search.
