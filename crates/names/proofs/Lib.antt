@@ -3,7 +3,5 @@ pub mod Runs
 pub mod Callsigns
 pub mod SameCall
 pub mod Destinations
-pub mod Cuts
 pub mod Reserved
-pub mod Pairs
 pub mod Unique

@@ -9,8 +9,6 @@ use Rattle.names.proofs.read_destination.Kinds as read-destination-kind
 use Rattle.names.proofs.read_destination.Reads as read-destination-reads
 use Rattle.names.proofs.is_reserved.Kinds as is-reserved-kinds
 use Rattle.names.proofs.is_reserved.Reads as is-reserved-reads
-use Rattle.names.proofs.keys_differ.Kinds as keys-differ-kinds
-use Rattle.names.proofs.keys_differ.Reads as keys-differ-reads
 use Rattle.names.proofs.is_stream_id.Kinds as is-stream-id-kinds
 use Rattle.names.proofs.is_stream_id.Reads as is-stream-id-reads
 use Rattle.names.proofs.is_header_key.Kinds as is-header-key-kinds
@@ -41,12 +39,6 @@ is-reserved-one κs a x y v w p q = (p ∙ sym q, refl)
 
 pub is-reserved-free : Free 1 is-reserved-kinds.ps is-reserved-reads.Pre
 is-reserved-free κs a = tt
-
-pub keys-differ-one : One 0 keys-differ-kinds.ps keys-differ-kinds.r keys-differ-reads.Post
-keys-differ-one κs a x y v w p q = (p ∙ sym q, refl)
-
-pub keys-differ-free : Free 0 keys-differ-kinds.ps keys-differ-reads.Pre
-keys-differ-free κs a = tt
 
 pub is-stream-id-one : One 1 is-stream-id-kinds.ps is-stream-id-kinds.r is-stream-id-reads.Post
 is-stream-id-one κs a x y v w p q = (p ∙ sym q, refl)

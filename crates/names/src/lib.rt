@@ -4,7 +4,6 @@ ghost use Rattle.names.specs.Callsign.{callsignOf, sameCall};
 ghost use Rattle.names.specs.Destination.{destinationOf};
 ghost use Rattle.names.specs.Reserved.{reserved};
 ghost use Rattle.names.specs.Texts.{streamId, headerKey, headerValue};
-ghost use Rattle.names.specs.Headers.{allDiffer, keysOf};
 
 mod parts;
 mod texts;
@@ -36,18 +35,6 @@ pub enum Destination {
 pub struct Word {
     pub text: [u8; 4],
     pub len: usize,
-}
-
-pub struct Header {
-    pub key: [u8; 32],
-    pub key_len: usize,
-    pub value: [u8; 128],
-    pub value_len: usize,
-}
-
-pub struct Headers {
-    pub items: [Header; 8],
-    pub count: usize,
 }
 
 // The thirteen reserved keys: len, fmt, s, clen, dst, chk, ttl, src, mid, frag, sid, sn, gt.
@@ -210,27 +197,4 @@ pub fn is_header_value(s: &[u8]) -> bool
         return false;
     }
     texts::is_ruled(s, true)
-}
-
-// Whether the headers' keys all differ: the first pair of equal keys ends the search.
-pub fn keys_differ(h: Headers) -> bool
-    ensures { λ r. ⌜ r ≡ allDiffer (keysOf h) ⌝ }
-{
-    let n = words::at_most(h.count, 8);
-    let mut differ = true;
-    let mut i = 0;
-    'pairs: while i < n {
-        let a = h.items[i];
-        let mut j = i + 1;
-        while j < n {
-            let b = h.items[j];
-            if words::same_key(a, b) {
-                differ = false;
-                break 'pairs;
-            }
-            j += 1;
-        }
-        i += 1;
-    }
-    differ
 }

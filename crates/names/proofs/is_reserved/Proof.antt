@@ -6,7 +6,7 @@ use lib.ListN.{drop}
 use Rattle.octets.specs.Words.{some}
 use Rattle.octets.specs.Bytes.{same}
 use Rattle.names.specs.Reserved.{reserved, reservedKeys}
-use Rattle.names.proofs.Reserved.{table, word-next, word-here, word-end}
+use Rattle.names.proofs.Reserved.{table, word-fits, word-next, word-here, word-end}
 use Rattle.names.proofs.is_reserved.Statement.{statement}
 use Rattle.names.proofs.is_reserved.Tie as tie
 
@@ -19,6 +19,12 @@ abbrev μ-loop : tie.MeasureT-loop
 loop-holds : tie.Need-loop-holds Inv-loop μ-loop
 unfolding reserved
 loop-holds c = (search needs, refl)
+
+spells-requires : tie.Need-spells-requires Inv-loop μ-loop
+unfolding table
+spells-requires c κs =
+    let at-loop = c .before .before .loop in
+    word-fits (at-loop .i) (search needs)
 
 returns : tie.Need-returns Inv-loop μ-loop
 unfolding table
@@ -46,7 +52,7 @@ is-reserved-spec =
     loop-holds
     (λ c. search needs)
     (λ c. search needs)
-    (λ c κs. search needs)
+    spells-requires
     returns
     (λ c. search needs)
     (λ c. search needs)

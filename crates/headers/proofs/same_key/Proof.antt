@@ -3,10 +3,10 @@ use mathlib.Core.Path.{_≡_, _∙_}
 use native.Mathlib.Omega.{arith}
 use borrow.Author.Needs.{needs}
 use lib.ListN.{length}
-use Rattle.names.specs.Headers.{keyOf}
-use Rattle.names.proofs.Cuts.{part-cut}
-use Rattle.names.proofs.words.same_key.Statement.{statement}
-use Rattle.names.proofs.words.same_key.Tie as tie
+use Rattle.headers.specs.Keys.{keyOf}
+use Rattle.headers.proofs.Cuts.{part-cut}
+use Rattle.headers.proofs.same_key.Statement.{statement}
+use Rattle.headers.proofs.same_key.Tie as tie
 
 long-a : (c : tie.Start) → length (c .args .a .key) ≡ 32
 long-a c = search needs

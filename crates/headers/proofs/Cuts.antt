@@ -8,7 +8,7 @@ use borrow.Author.Tests.{le-leb, lt-leb, leb-true, leb-false}
 use lib.ListN.{length, take, drop}
 use lib.Seq.{take-all}
 use Rattle.octets.specs.Words.{if_then_else_, _≤?_}
-use Rattle.names.specs.Cut.{cut}
+use Rattle.headers.specs.Cut.{cut}
 
 pub cut-within : (n room : ℕ) → cut n room ≤ room
 unfolding cut

@@ -7,10 +7,10 @@ use borrow.Author.Needs.{needs}
 use lib.ListN.{length, drop, length-map}
 use Rattle.octets.specs.Words.{some}
 use Rattle.octets.specs.Bytes.{same}
-use Rattle.names.specs.Headers.{allDiffer, keyOf, keysOf}
-use Rattle.names.proofs.Pairs.{second-next, second-here, second-end, first-next, first-here, first-end}
-use Rattle.names.proofs.keys_differ.Statement.{statement}
-use Rattle.names.proofs.keys_differ.Tie as tie
+use Rattle.headers.specs.Keys.{allDiffer, keyOf, keysOf}
+use Rattle.headers.proofs.Pairs.{second-next, second-here, second-end, first-next, first-here, first-end}
+use Rattle.headers.proofs.keys_differ.Statement.{statement}
+use Rattle.headers.proofs.keys_differ.Tie as tie
 
 abbrev Inv-loop : tie.InvT-loop
 Inv-loop h n differ₀ i a j₀ differ j = (i < j) × (j ≤ n) × (differ ≡ true) × (some (same (keyOf a)) (drop (i + 1) (keysOf h)) ≡ some (same (keyOf a)) (drop j (keysOf h)))

@@ -4,9 +4,9 @@ use borrow.Author.Needs.{needs}
 use borrow.Author.Tests.{le-leb, lt-leb}
 use lib.ListN.{length}
 use Rattle.octets.proofs.Tests.{if-yes, if-no}
-use Rattle.names.specs.Cut.{cut}
-use Rattle.names.proofs.words.at_most.Statement.{statement}
-use Rattle.names.proofs.words.at_most.Tie as tie
+use Rattle.headers.specs.Cut.{cut}
+use Rattle.headers.proofs.at_most.Statement.{statement}
+use Rattle.headers.proofs.at_most.Tie as tie
 
 returns : tie.Need-returns
 unfolding cut

@@ -10,11 +10,11 @@ use Rattle.octets.specs.Words.{_and_, no, some}
 use Rattle.octets.specs.Bytes.{same}
 use Rattle.octets.proofs.Lists.{drop-next, some-next, some-here, some-end}
 use Rattle.octets.proofs.Tests.{and-next, and-not-left, no-true, no-false}
-use Rattle.names.specs.Cut.{cut}
-use Rattle.names.specs.Headers.{allDiffer, keyOf, keysOf}
-use Rattle.names.specs.declared.Header.{Header}
-use Rattle.names.specs.declared.Headers.{Headers}
-use Rattle.names.proofs.Cuts.{cut-within, take-cut}
+use Rattle.headers.specs.Cut.{cut}
+use Rattle.headers.specs.Keys.{allDiffer, keyOf, keysOf}
+use Rattle.headers.specs.declared.Header.{Header}
+use Rattle.headers.specs.declared.Headers.{Headers}
+use Rattle.headers.proofs.Cuts.{cut-within, take-cut}
 
 -- what an index past the headers' end would find
 abbrev pub noHeader : Header

@@ -5,8 +5,8 @@ use mathlib.Core.List.{List, [], _∷_, map}
 use lib.ListN.{take}
 use Rattle.octets.specs.Words.{_and_, no, some}
 use Rattle.octets.specs.Bytes.{same}
-use Rattle.names.specs.declared.Header.{Header}
-use Rattle.names.specs.declared.Headers.{Headers}
+use Rattle.headers.specs.declared.Header.{Header}
+use Rattle.headers.specs.declared.Headers.{Headers}
 
 -- no text comes again behind itself
 unfoldable pub allDiffer : List (List ℕ) → Bool
