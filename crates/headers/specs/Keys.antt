@@ -1,6 +1,6 @@
 -- Document 01, "Names and fields": the keys of a message's headers all differ.
 use Prim.Native.Nat.{ℕ}
-use mathlib.Core.Bool.{Bool, true, false}
+use mathlib.Core.Bool.{Bool, true}
 use mathlib.Core.List.{List, [], _∷_, map}
 use lib.ListN.{take}
 use Rattle.octets.specs.Words.{_and_, no, some}

@@ -1,8 +1,7 @@
 // Document 01, "Names and fields": the headers of a message, and whether their keys all differ.
 ghost use mathlib.Core.Path.{_≡_};
-ghost use Prim.Native.Nat.{_≤_};
+ghost use Prim.Native.Nat.{_≤_, min};
 ghost use Rattle.octets.specs.Bytes.{same};
-ghost use Rattle.headers.specs.Cut.{cut};
 ghost use Rattle.headers.specs.Keys.{allDiffer, keyOf, keysOf};
 ghost use Rattle.headers.specs.Rule.{header, headers};
 
@@ -22,7 +21,7 @@ pub struct Headers {
 
 // A length, cut to what an array has.
 fn at_most(n: usize, room: usize) -> usize
-    ensures { λ r. ⌜ (r ≡ cut n room) × (r ≤ room) ⌝ }
+    ensures { λ r. ⌜ (r ≡ min n room) × (r ≤ room) ⌝ }
 {
     if n <= room {
         return n;

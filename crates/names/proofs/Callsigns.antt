@@ -1,22 +1,21 @@
--- Callsigns: what each shape of suffix comes to, what the reader's tests come to, and how long a callsign is.
+-- Callsigns: what each shape of suffix comes to, and what the reader's tests come to.
 use Prim.Native.Nat.{ℕ, _+_, _-_, _≤_, _<_}
-use mathlib.Core.Path.{_≡_, refl, ap, sym, _∙_}
-use mathlib.Core.Bool.{Bool, true, false}
+use mathlib.Core.Path.{_≡_, refl, sym, _∙_}
+use mathlib.Core.Bool.{true, false}
 use mathlib.Core.List.{List, [], _∷_}
 use native.Mathlib.Omega.{arith}
 use borrow.Author.Tests.{eq-eqb, ne-eqb}
 use lib.ListN.{length, getD, take, drop}
 use Rattle.octets.specs.Words.{if_then_else_, _and_, _=?_, between}
-use Rattle.octets.proofs.Tests.{if-yes, if-no, and-left, and-right, and-both, and-not-left, and-not-right, and-next, true-not-false, inside, below, above, inside-high}
-use Rattle.names.specs.Runs.{run, rest}
-use Rattle.names.specs.Callsign.{alnum, suffix, suffixSsid, suffixOf, digitOf, baseLength, ssid, callsign, callOf, callsignOf}
+use Rattle.octets.proofs.Tests.{if-yes, if-no, and-both, and-not-left, and-not-right, inside, below, above}
+use Rattle.names.specs.Runs.{run}
+use Rattle.names.specs.Callsign.{alnum, suffix, suffixSsid, baseLength, ssid, callsign, callOf, callsignOf}
+use Rattle.names.specs.Suffix.{suffixOf, digitOf}
 use Rattle.names.specs.declared.Call.{Call}
-use Rattle.names.specs.declared.Callsign.{Callsign}
 use Rattle.names.specs.declared.Callsign.the-variants.{Is, Malformed}
-use Rattle.names.specs.declared.parts.Suffix.{Suffix}
 use Rattle.names.specs.declared.parts.Suffix.the-variants.{Ssid, Bad}
 use Rattle.names.proofs.Choices.{chosen, unchosen}
-use Rattle.names.proofs.Runs.{run-rest, rest-part}
+use Rattle.names.proofs.Runs.{rest-part}
 
 -- ---- the suffix, by its length and bytes
 
@@ -64,14 +63,6 @@ suffix-two (m ∷ x ∷ []) h e f = absurd (omega arith)
 suffix-two (m ∷ x ∷ y ∷ []) h e f = rw (eq-eqb m 45 e, eq-eqb x 49 f)
 suffix-two (m ∷ x ∷ y ∷ z ∷ t) h e f = absurd (omega arith)
 
-suffix-short : (t : List ℕ) → suffix t ≡ true → length t ≤ 3
-unfolding suffix
-suffix-short [] e = omega arith
-suffix-short (m ∷ []) e = omega arith
-suffix-short (m ∷ x ∷ []) e = omega arith
-suffix-short (m ∷ x ∷ y ∷ []) e = omega arith
-suffix-short (m ∷ x ∷ y ∷ z ∷ t) e = true-not-false false e refl
-
 ssid-not-bad : (n : ℕ) → Ssid n ≡ Bad → ⊥
 ssid-not-bad n e = let z : _≡_ {A = ℕ} 0 1 = cc in omega arith
 
@@ -99,14 +90,6 @@ module _ (s : List ℕ) (n : ℕ) (e : n ≡ length (run alnum s)) where
       let t = chosen (suffix (take (length s - n) (drop n s))) (Ssid (suffixSsid (take (length s - n) (drop n s)))) Bad (Ssid k) q (λ b. ssid-not-bad k (sym b)) in
       let m : suffixSsid (take (length s - n) (drop n s)) ≡ k = cc in
       sym (split ∙ if-yes _ _ _ (and-both _ _ (inside 1 9 n low high) (t .0)) ∙ rw m)
-
--- the longest callsign has 9 letters or digits and a suffix of 3 bytes
-pub callsign-short : (s : List ℕ) → callsign s ≡ true → length s ≤ 12
-unfolding callsign baseLength
-callsign-short s e =
-    let b = inside-high 1 9 (length (run alnum s)) (and-left _ _ e) in
-    let t = suffix-short (rest alnum s) (and-right (between 1 9 (length (run alnum s))) _ e) in
-    omega (arith, run-rest alnum s)
 
 -- ---- what a reader's answer says of the text
 

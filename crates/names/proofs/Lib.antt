@@ -3,5 +3,7 @@ pub mod Runs
 pub mod Callsigns
 pub mod SameCall
 pub mod Destinations
+pub mod Lengths
 pub mod Reserved
+pub mod Examples
 pub mod Unique

@@ -8,8 +8,6 @@ use Rattle.octets.specs.Bytes.{same}
 use Rattle.names.specs.Runs.{run, rest}
 use Rattle.names.specs.declared.Call.{Call}
 use Rattle.names.specs.declared.Callsign.{Callsign}
-use Rattle.names.specs.declared.parts.Suffix.{Suffix}
-use Rattle.names.specs.declared.parts.Suffix.the-variants.{Ssid, Bad}
 use Rattle.names.specs.declared.Callsign.the-variants.{Is, Malformed}
 
 -- a letter or digit: 0-9, A-Z, a-z
@@ -30,13 +28,6 @@ suffixSsid [] = 0
 suffixSsid (m ∷ []) = 0
 suffixSsid (m ∷ x ∷ []) = x - 48
 suffixSsid (m ∷ x ∷ y ∷ t) = 10 + (y - 48)
-
--- what the suffix's reader answers, and its part for an SSID whose last digit is one of low to high, with tens before it
-unfoldable pub suffixOf : List ℕ → Suffix
-suffixOf t = if suffix t then Ssid (suffixSsid t) else Bad
-
-unfoldable pub digitOf : ℕ → ℕ → ℕ → ℕ → Suffix
-digitOf low high tens x = if between low high x then Ssid (tens + (x - 48)) else Bad
 
 -- the base is the letters or digits that the text begins with
 unfoldable pub baseLength : List ℕ → ℕ

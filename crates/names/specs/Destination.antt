@@ -1,6 +1,6 @@
 -- Document 01, "Names and fields": destinations.
 use Prim.Native.Nat.{ℕ}
-use mathlib.Core.Bool.{Bool, true, false}
+use mathlib.Core.Bool.{Bool, false}
 use mathlib.Core.List.{List, [], _∷_}
 use lib.ListN.{length, drop}
 use Rattle.octets.specs.Words.{if_then_else_, _and_, _or_, _=?_, between}

@@ -1,6 +1,6 @@
 -- A name begins with bytes of one kind, and something follows them: both parts, for any kind of byte.
 use Prim.Native.Nat.{ℕ}
-use mathlib.Core.Bool.{Bool, true, false}
+use mathlib.Core.Bool.{Bool}
 use mathlib.Core.List.{List, [], _∷_}
 use Rattle.octets.specs.Words.{if_then_else_}
 

@@ -153,9 +153,10 @@ pub fn is_stream_id(s: &[u8]) -> bool
 pub fn is_reserved(s: &[u8]) -> bool
     ensures { λ r. ⌜ r ≡ reserved (now (s .entry)) ⌝ }
 {
+    let table = RESERVED;
     let mut i = 0;
     while i < 13 {
-        let w = RESERVED[i];
+        let w = table[i];
         if words::spells(s, w) {
             return true;
         }

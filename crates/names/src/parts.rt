@@ -4,7 +4,8 @@ ghost use Prim.Native.Nat.{_≤_};
 ghost use lib.ListN.{length};
 ghost use Rattle.octets.specs.Words.{between};
 ghost use Rattle.names.specs.Runs.{run};
-ghost use Rattle.names.specs.Callsign.{alnum, suffixOf, digitOf};
+ghost use Rattle.names.specs.Callsign.{alnum};
+ghost use Rattle.names.specs.Suffix.{suffixOf, digitOf};
 ghost use Rattle.names.specs.Destination.{appByte};
 
 // What follows a callsign's base.

@@ -14,6 +14,7 @@ use Rattle.headers.proofs.is_header.Tie as tie
 
 long-key : (c : tie.Start) → length (c .args .h .key) ≡ 32
 long-key c = search needs
+
 long-value : (c : tie.Start) → length (c .args .h .value) ≡ 128
 long-value c = search needs
 

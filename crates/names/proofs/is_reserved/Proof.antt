@@ -11,10 +11,10 @@ use Rattle.names.proofs.is_reserved.Statement.{statement}
 use Rattle.names.proofs.is_reserved.Tie as tie
 
 abbrev Inv-loop : tie.InvT-loop
-Inv-loop s i₀ i = (i ≤ 13) × (reserved s ≡ some (same s) (drop i reservedKeys))
+Inv-loop s table i₀ i = (i ≤ 13) × (reserved s ≡ some (same s) (drop i reservedKeys))
 
 abbrev μ-loop : tie.MeasureT-loop
-μ-loop s i₀ i = 13 - i
+μ-loop s table i₀ i = 13 - i
 
 loop-holds : tie.Need-loop-holds Inv-loop μ-loop
 unfolding reserved

@@ -3,7 +3,7 @@ use mathlib.Core.Path.{sym, _∙_}
 use native.Mathlib.Omega.{arith}
 use borrow.Author.Needs.{needs}
 use Rattle.octets.proofs.Tests.{if-yes, if-no, inside-low, inside-high}
-use Rattle.names.specs.Callsign.{digitOf}
+use Rattle.names.specs.Suffix.{digitOf}
 use Rattle.names.proofs.parts.last_digit.Statement.{statement}
 use Rattle.names.proofs.parts.last_digit.Tie as tie
 
