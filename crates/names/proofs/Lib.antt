@@ -1,0 +1,9 @@
+pub mod Choices
+pub mod Runs
+pub mod Callsigns
+pub mod SameCall
+pub mod Destinations
+pub mod Lengths
+pub mod Reserved
+pub mod Examples
+pub mod Unique
