@@ -12,6 +12,7 @@ use Rattle.octets.proofs.Lists.{drop-next}
 use Rattle.octets.proofs.Tests.{if-yes, if-no, and-left, and-right, and-both, and-not-left, and-not-right, true-not-false, inside, below, above, inside-high}
 use Rattle.names.specs.Runs.{run, rest}
 use Rattle.names.specs.Callsign.{callsign, callOf, callsignOf}
+use Rattle.names.proofs.Choices.{chosen, unchosen}
 use Rattle.names.specs.Destination.{appByte, atCallsign, destination, addressOf, destinationOf}
 use Rattle.names.specs.declared.Call.{Call}
 use Rattle.names.specs.declared.Callsign.the-variants as callsigns
@@ -67,3 +68,15 @@ destination-short s e =
     let b = inside-high 1 32 (length (run appByte s)) (and-left _ _ e) in
     let t = at-short (rest appByte s) (and-right (between 1 32 (length (run appByte s))) _ e) in
     omega (arith, run-rest appByte s)
+
+-- what the reader's answer says
+address-not-malformed : (a : Address) → Is a ≡ Malformed → ⊥
+address-not-malformed a e = let z : _≡_ {A = ℕ} 0 1 = cc in omega arith
+
+pub is-destination : (s : List ℕ) (a : Address) → destinationOf s ≡ Is a → destination s ≡ true
+unfolding destinationOf
+is-destination s a e = chosen (destination s) (Is (addressOf s)) Malformed (Is a) e (λ b. address-not-malformed a (sym b)) .0
+
+pub no-destination : (s : List ℕ) → destinationOf s ≡ Malformed → destination s ≡ false
+unfolding destinationOf
+no-destination s e = unchosen (destination s) (Is (addressOf s)) Malformed Malformed e (address-not-malformed (addressOf s))
