@@ -26,6 +26,9 @@ take-cut n l room h = go (n ≤? room) refl
     go true e = refl
     go false e = take-all room l (omega arith) ∙ sym (take-all n l (omega (arith, leb-false n room e)))
 
--- the same as the code lends it: r is the length that was cut
+-- the front of an array as the code lends it
+pub part-front : (n : ℕ) (l : List ℕ) → take (n - 0) (drop 0 l) ≡ take n l
+part-front n l = let z : n - 0 ≡ n = omega arith in rw z
+
 pub part-cut : (n room r : ℕ) (l : List ℕ) → r ≡ cut n room → length l ≡ room → take (r - 0) (drop 0 l) ≡ take n l
-part-cut n room r l e h = let z : r - 0 ≡ r = omega arith in rw (z, e) (take-cut n l room h)
+part-cut n room r l e h = part-front r l ∙ rw e (take-cut n l room h)

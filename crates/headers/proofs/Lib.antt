@@ -1,3 +1,4 @@
 pub mod Cuts
+pub mod Items
 pub mod Pairs
 pub mod Unique

@@ -1,3 +1,4 @@
 -- Document 01, "Names and fields": the headers of a message.
 pub mod Cut
 pub mod Keys
+pub mod Rule

@@ -4,6 +4,7 @@ ghost use Prim.Native.Nat.{_≤_};
 ghost use Rattle.octets.specs.Bytes.{same};
 ghost use Rattle.headers.specs.Cut.{cut};
 ghost use Rattle.headers.specs.Keys.{allDiffer, keyOf, keysOf};
+ghost use Rattle.headers.specs.Rule.{header, headers};
 
 // A header: the first `key_len` bytes of `key` and the first `value_len` of `value`.
 pub struct Header {
@@ -61,4 +62,43 @@ pub fn keys_differ(h: Headers) -> bool
         i += 1;
     }
     differ
+}
+
+// Whether a header's lengths lie in their arrays, its key is a header key and its value a header value.
+fn is_header(h: Header) -> bool
+    ensures { λ r. ⌜ r ≡ header h ⌝ }
+{
+    let n = h.key_len;
+    if 32 < n {
+        return false;
+    }
+    let m = h.value_len;
+    if 128 < m {
+        return false;
+    }
+    let key = h.key;
+    if !names::is_header_key(&key[0..n]) {
+        return false;
+    }
+    let value = h.value;
+    names::is_header_value(&value[0..m])
+}
+
+// Whether these are headers that a message may have: at most 8, each a header, and the keys all differ.
+pub fn are_headers(h: Headers) -> bool
+    ensures { λ r. ⌜ r ≡ headers h ⌝ }
+{
+    let n = h.count;
+    if 8 < n {
+        return false;
+    }
+    let mut i = 0;
+    while i < n {
+        let a = h.items[i];
+        if !is_header(a) {
+            return false;
+        }
+        i += 1;
+    }
+    keys_differ(h)
 }

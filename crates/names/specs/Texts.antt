@@ -15,13 +15,17 @@ textByte equals x = 0x21 ≤? x and (no (x =? 0x7F) and (equals or no (x =? 61))
 unfoldable pub ruled : Bool → List ℕ → Bool
 ruled equals s = utf8 s and every (textByte equals) s
 
+-- the stream id's rule, for texts of 1 to most bytes: no `=`
+unfoldable pub idText : ℕ → List ℕ → Bool
+idText most s = between 1 most (length s) and ruled false s
+
 -- 1 to 255 bytes of well-formed UTF-8, no `=`, no byte up to 0x20, no 0x7F
 unfoldable pub streamId : List ℕ → Bool
-streamId s = between 1 255 (length s) and ruled false s
+streamId s = idText 255 s
 
 -- 1 to 32 bytes by the stream id's rule, not reserved
 unfoldable pub headerKey : List ℕ → Bool
-headerKey s = between 1 32 (length s) and (ruled false s and no (reserved s))
+headerKey s = idText 32 s and no (reserved s)
 
 -- 0 to 128 bytes, by the same rule but `=` allowed
 unfoldable pub headerValue : List ℕ → Bool

@@ -97,16 +97,16 @@ pub const RESERVED: [Word; 13] = [
 pub fn read_callsign(s: &[u8]) -> Callsign
     ensures { λ r. ⌜ r ≡ callsignOf (now (s .entry)) ⌝ }
 {
-    let n = parts::call_run(s);
-    if n < 1 {
+    let base = parts::call_run(s);
+    if base < 1 {
         return Callsign::Malformed;
     }
-    if 9 < n {
+    if 9 < base {
         return Callsign::Malformed;
     }
-    let t = parts::read_suffix(&s[n..]);
-    match t {
-        parts::Suffix::Ssid(ssid) => Callsign::Is(Call { base: n, ssid }),
+    let suffix = parts::read_suffix(&s[base..]);
+    match suffix {
+        parts::Suffix::Ssid(ssid) => Callsign::Is(Call { base, ssid }),
         parts::Suffix::Bad => Callsign::Malformed,
     }
 }
@@ -122,22 +122,22 @@ pub fn same_call(a: &[u8], b: &[u8]) -> bool
 pub fn read_destination(s: &[u8]) -> Destination
     ensures { λ r. ⌜ r ≡ destinationOf (now (s .entry)) ⌝ }
 {
-    let n = parts::app_run(s);
-    if n < 1 {
+    let app = parts::app_run(s);
+    if app < 1 {
         return Destination::Malformed;
     }
-    if 32 < n {
+    if 32 < app {
         return Destination::Malformed;
     }
-    if n == s.len() {
+    if app == s.len() {
         return Destination::Malformed;
     }
-    if s[n] != b'@' {
+    if s[app] != b'@' {
         return Destination::Malformed;
     }
-    let c = read_callsign(&s[n + 1..]);
-    match c {
-        Callsign::Is(call) => Destination::Is(Address { app: n, call }),
+    let callsign = read_callsign(&s[app + 1..]);
+    match callsign {
+        Callsign::Is(call) => Destination::Is(Address { app, call }),
         Callsign::Malformed => Destination::Malformed,
     }
 }
@@ -146,13 +146,7 @@ pub fn read_destination(s: &[u8]) -> Destination
 pub fn is_stream_id(s: &[u8]) -> bool
     ensures { λ r. ⌜ r ≡ streamId (now (s .entry)) ⌝ }
 {
-    if s.len() < 1 {
-        return false;
-    }
-    if 255 < s.len() {
-        return false;
-    }
-    texts::is_ruled(s, false)
+    texts::is_id_text(s, 255)
 }
 
 // Whether a key is one of the thirteen reserved.
@@ -174,13 +168,7 @@ pub fn is_reserved(s: &[u8]) -> bool
 pub fn is_header_key(s: &[u8]) -> bool
     ensures { λ r. ⌜ r ≡ headerKey (now (s .entry)) ⌝ }
 {
-    if s.len() < 1 {
-        return false;
-    }
-    if 32 < s.len() {
-        return false;
-    }
-    if !texts::is_ruled(s, false) {
+    if !texts::is_id_text(s, 32) {
         return false;
     }
     if is_reserved(s) {

@@ -1,7 +1,7 @@
 // The rule of bytes that stream ids, header keys and header values keep.
 ghost use mathlib.Core.Path.{_≡_};
 ghost use Rattle.octets.specs.Words.{every};
-ghost use Rattle.names.specs.Texts.{textByte, ruled};
+ghost use Rattle.names.specs.Texts.{textByte, ruled, idText};
 
 // Whether a byte keeps the rule; `equals` says whether it may be `=`.
 fn passes(x: u8, equals: bool) -> bool
@@ -44,4 +44,17 @@ pub(crate) fn is_ruled(s: &[u8], equals: bool) -> bool
         return false;
     }
     all_pass(s, equals)
+}
+
+// Whether a text of 1 to `most` bytes keeps the stream id's rule.
+pub(crate) fn is_id_text(s: &[u8], most: usize) -> bool
+    ensures { λ r. ⌜ r ≡ idText most (now (s .entry)) ⌝ }
+{
+    if s.len() < 1 {
+        return false;
+    }
+    if most < s.len() {
+        return false;
+    }
+    is_ruled(s, false)
 }

@@ -10,7 +10,6 @@ use Rattle.headers.proofs.same_key.Tie as tie
 
 long-a : (c : tie.Start) → length (c .args .a .key) ≡ 32
 long-a c = search needs
-
 long-b : (c : tie.Start) → length (c .args .b .key) ≡ 32
 long-b c = search needs
 

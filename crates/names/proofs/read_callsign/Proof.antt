@@ -23,7 +23,7 @@ returns-3 c =
     let at-args = c .before .before .before .before .before .before .before .before .before .args in
     let at-call-run = c .before .before .before .before .before .before .before .call-run in
     let at-read-suffix = c .before .before .before .read-suffix in
-    call-good (at-args .s .now) (at-call-run .result) (at-call-run .ensures .0) _ (search needs) (search needs) (sym (at-read-suffix .ensures) ∙ c .before .t .given .1)
+    call-good (at-args .s .now) (at-call-run .result) (at-call-run .ensures .0) _ (search needs) (search needs) (sym (at-read-suffix .ensures) ∙ c .before .suffix .given .1)
 
 returns-4 : tie.Need-returns-4
 returns-4 c =

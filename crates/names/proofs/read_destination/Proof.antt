@@ -36,7 +36,7 @@ returns-5 c =
     let at-app-run = c .before .before .before .before .before .before .before .before .before .before .app-run in
     let at-if4 = c .before .before .before .before .before .if4 in
     let at-read-callsign = c .before .before .before .read-callsign in
-    app-call (at-args .s .now) (at-app-run .result) (at-app-run .ensures .0) (search needs) _ (search needs) (search needs) (at-if4 .left) (sym (at-read-callsign .ensures) ∙ c .before .c .given .1)
+    app-call (at-args .s .now) (at-app-run .result) (at-app-run .ensures .0) (search needs) _ (search needs) (search needs) (at-if4 .left) (sym (at-read-callsign .ensures) ∙ c .before .callsign .given .1)
 
 returns-6 : tie.Need-returns-6
 returns-6 c =
