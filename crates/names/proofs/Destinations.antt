@@ -11,6 +11,7 @@ use Rattle.octets.proofs.Lists.{drop-next}
 use Rattle.octets.proofs.Tests.{if-yes, if-no, and-both, and-not-left, and-not-right, inside, below, above}
 use Rattle.names.specs.Runs.{run}
 use Rattle.names.specs.Callsign.{callsign, callOf, callsignOf}
+use Rattle.names.proofs.Choices.{chosen, unchosen}
 use Rattle.names.specs.Destination.{appByte, atCallsign, destination, addressOf, destinationOf}
 use Rattle.names.specs.declared.Call.{Call}
 use Rattle.names.specs.declared.Callsign.the-variants as callsigns
@@ -52,3 +53,15 @@ module _ (s : List ℕ) (n : ℕ) (e : n ≡ length (run appByte s)) where
     app-call c low high m q =
         let k = is-callsign (drop (n + 1) s) c (rw (tail-part s (n + 1)) at q) in
         sym (split ∙ if-yes _ _ _ (and-both _ _ (inside 1 32 n low high) (at-place ∙ and-both _ _ (eq-eqb _ _ m) (k .0))) ∙ rw (drop-next s n 0 h, k .1))
+
+-- what the reader's answer says
+address-not-malformed : (a : Address) → Is a ≡ Malformed → ⊥
+address-not-malformed a e = let z : _≡_ {A = ℕ} 0 1 = cc in omega arith
+
+pub is-destination : (s : List ℕ) (a : Address) → destinationOf s ≡ Is a → destination s ≡ true
+unfolding destinationOf
+is-destination s a e = chosen (destination s) (Is (addressOf s)) Malformed (Is a) e (λ b. address-not-malformed a (sym b)) .0
+
+pub no-destination : (s : List ℕ) → destinationOf s ≡ Malformed → destination s ≡ false
+unfolding destinationOf
+no-destination s e = unchosen (destination s) (Is (addressOf s)) Malformed Malformed e (address-not-malformed (addressOf s))
