@@ -1,6 +1,7 @@
 -- Each quarter of the rounds has its constant.
 use Rattle.sha1.specs.Sha1 as fips
 use Rattle.sha1.proofs.Schedule.{first, second, third, fourth}
+use Rattle.sha1.proofs.Ends.{left}
 use Rattle.sha1.proofs.block.k.Statement.{statement}
 use Rattle.sha1.proofs.block.k.Tie as tie
 

@@ -7,6 +7,7 @@ use lib.ListN.{length, take, drop, length-set}
 use lib.Seq.{take-all}
 use Rattle.sha1.specs.Sha1 as fips
 use Rattle.sha1.proofs.Schedule.{word-part, more, early, late}
+use Rattle.sha1.proofs.Ends.{filled}
 use Rattle.sha1.proofs.block.schedule.Statement.{statement}
 use Rattle.sha1.proofs.block.schedule.Tie as tie
 
@@ -29,9 +30,12 @@ loop-holds c = (search needs, refl, refl)
 loop-again : tie.Need-loop-again Inv-loop μ-loop Inv-loop2 μ-loop2
 loop-again c =
     let at-loop = c .before .before .loop in
-    let at-args = c .before .before .before .before .args in
-    (omega arith, rw length-set (at-loop .inv .1), more _ (at-loop .w) (at-loop .t) _ (search needs) (at-loop .inv .2)
-    (c .word .ensures ∙ word-part (at-args .s .now) (at-args .at) 64 (4 * at-loop .t) (omega arith) ∙ early _ _ _ (c .before .loop-test .taken)))
+    let at-args = c .before .before .before .before .args in (
+      omega arith,
+      rw length-set (at-loop .inv .1),
+      more _ (at-loop .w) (at-loop .t) _ (search needs) (at-loop .inv .2)
+          (c .word .ensures ∙ word-part (at-args .s .now) (at-args .at) 64 (4 * at-loop .t) (omega arith) ∙ early _ _ _ (c .before .loop-test .taken)),
+    )
 
 loop2-again : tie.Need-loop2-again Inv-loop μ-loop Inv-loop2 μ-loop2
 loop2-again c =

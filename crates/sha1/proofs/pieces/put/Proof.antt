@@ -3,6 +3,7 @@ use mathlib.Core.Path.{refl}
 use borrow.Author.Needs.{needs}
 use Rattle.sha1.specs.Sha1 as fips
 use Rattle.sha1.proofs.Feed.{put-full, put-more}
+use Rattle.sha1.proofs.Ends.{left}
 use Rattle.sha1.proofs.pieces.put.Statement.{statement}
 use Rattle.sha1.proofs.pieces.put.Tie as tie
 
