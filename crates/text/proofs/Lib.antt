@@ -1,0 +1,6 @@
+-- Laws of text, and what every public function leaves open: nothing.
+pub mod Runs
+pub mod Unique
+pub mod Numerals
+pub mod Decimals
+pub mod Hexes
