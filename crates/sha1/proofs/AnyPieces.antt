@@ -1,13 +1,12 @@
 -- The theorem over pieces: a fresh state that was fed any pieces, however the message is cut, finishes with the standard's digest.
 -- It holds at every length; the standard itself gives digests to messages below 2^61 bytes.
-use mathlib.Core.List.{List, [], _∷_, _++_, append-assoc}
+use mathlib.Core.List.{List, [], _∷_, _++_}
 use mathlib.Core.Path.{_≡_, refl, sym, ap, _∙_}
-use Prim.Native.Nat.{ℕ, zero, suc, _+_, _-_, _*_, _/_, _%_, _^_, _≤_, _<_}
+use Prim.Native.Nat.{ℕ, suc, _+_, _-_, _*_, _/_, _%_, _^_, _≤_, _<_}
 use native.Mathlib.Omega.{arith}
 use lib.Pow.{field, mod-mod-pow}
-use lib.ListN.{length, take, replicate, length-append, length-replicate}
+use lib.ListN.{length, length-append, length-replicate}
 use lib.Seq.{take-all}
-use Rattle.sha1.specs.declared.Hash.{Hash}
 use Rattle.sha1.specs.declared.Sha1.{Sha1}
 use Rattle.sha1.specs.Sha1.{initial, zeros, big64, padding, chain, sha1}
 use Rattle.sha1.specs.Machine.{fresh, fedAll, fedPieces, joined, finished}

@@ -1,9 +1,9 @@
 -- What the cut path and the end are made of: a piece in three parts, and the padding in two or three.
-use mathlib.Core.List.{List, [], _∷_, _++_, append-assoc}
+use mathlib.Core.List.{List, _∷_, _++_, append-assoc}
 use mathlib.Core.Path.{_≡_, refl, sym, ap, _∙_}
 use Prim.Native.Nat.{ℕ, zero, suc, _+_, _-_, _*_, _/_, _%_, _^_, _≤_, _<_}
 use native.Mathlib.Omega.{arith}
-use lib.ListN.{length, take, drop, replicate, length-take, length-drop, length-append, length-replicate, take-append-drop, replicate-append-replicate}
+use lib.ListN.{length, take, drop, replicate, length-take, length-drop, replicate-append-replicate}
 use lib.Seq.{take-all, take-add, drop-drop}
 use Rattle.sha1.specs.declared.Sha1.{Sha1}
 use Rattle.sha1.specs.Sha1.{zeros, big64, padding}
@@ -41,8 +41,8 @@ filling t = omega arith
 module _ (st one : Sha1) (s : List ℕ) (room : ℕ) (small : st .total < 2 ^ 64) (e : room ≡ (64 - st .total % 64) % 64) (k : room ≤ length s)
     (p : one ≡ fedAll st (cut 0 room s)) where
   -- what fills the waiting block leaves none begun
-  pub filled : one .total % 64 ≡ 0
-  filled =
+  pub block-filled : one .total % 64 ≡ 0
+  block-filled =
       ap (λ st. st .total % 64) p ∙ fill st (cut 0 room s) (room - 0) small (length-cut 0 room s k)
       ∙ let z : st .total + (room - 0) ≡ st .total + (64 - st .total % 64) % 64 = omega arith in rw z (filling (st .total))
 
@@ -56,7 +56,7 @@ module _ (st one : Sha1) (s : List ℕ) (room : ℕ) (small : st .total < 2 ^ 64
 
     after : two .total % 64 ≡ 0
     after =
-        let z = filled in
+        let z = block-filled in
         let l = length-cut room end s (omega arith) in
         let d : (one .total + (end - room)) % 64 ≡ 0 = omega arith in
         ap (λ st. st .total % 64) taken ∙ fill one (cut room end s) (end - room) (rw p (counted-lt st (cut 0 room s) small)) l ∙ d

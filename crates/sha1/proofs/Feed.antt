@@ -5,7 +5,7 @@ use mathlib.Core.Path.{_≡_, refl, sym, ap, _∙_}
 use Prim.Native.Nat.{ℕ, zero, suc, _+_, _-_, _*_, _/_, _%_, _^_, _≤_, _<_}
 use native.Mathlib.Omega.{arith}
 use borrow.Author.Tests.{eq-eqb, ne-eqb, eqb-true, eqb-false}
-use lib.ListN.{length, take, drop, set, length-append, length-take, length-drop, length-set, drop-of-length-le}
+use lib.ListN.{length, take, drop, set, length-take, length-drop, length-set, drop-of-length-le}
 use lib.Seq.{take-add, take-all}
 use Rattle.octets.specs.Words.{if_then_else_, _=?_}
 use Rattle.octets.specs.Bytes.{placed}
@@ -77,8 +77,8 @@ within st (x ∷ y ∷ s) size small k =
 
 -- ---- whole blocks
 
--- a block over a block
-over : (m b : List ℕ) → length b ≡ length m → placed m 0 b ≡ m
+-- bytes over as many
+pub over : (m b : List ℕ) → length b ≡ length m → placed m 0 b ≡ m
 over m b e = placed-in m 0 b (omega arith) ∙ ap (λ r. m ++ r) (drop-of-length-le b {i = 0 + length m} (omega arith)) ∙ append-nil m
 
 full : (st : Sha1) (m : List ℕ) → length (st .block) ≡ 64 → st .total < 2 ^ 64 → st .total % 64 ≡ 0 → length m ≡ 64

@@ -3,3 +3,6 @@ pub mod Schedule
 pub mod Feed
 pub mod Ends
 pub mod AnyPieces
+pub mod Ids
+pub mod Vectors
+pub mod Unique

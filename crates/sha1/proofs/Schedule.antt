@@ -1,5 +1,5 @@
 -- One block: the quarters of the rounds, four sums as one, and the message schedule word by word.
-use mathlib.Core.List.{List, [], _∷_, _++_}
+use mathlib.Core.List.{List, []}
 use mathlib.Core.Path.{_≡_, refl, sym, ap, _∙_}
 use Prim.Native.Nat.{ℕ, zero, suc, _+_, _-_, _*_, _%_, _^_, _≤_, _<_}
 use native.Mathlib.Numerals.{add-one}
@@ -13,23 +13,23 @@ use Rattle.sha1.specs.Sha1.{quarter, word, mixed, scheduled, schedule}
 -- ---- the rounds
 
 module _ {A : Type 0} (t : ℕ) (p q r s : A) where
-  pub first : t < 20 → p ≡ quarter t p q r s
+  pub quarter-first : t < 20 → p ≡ quarter t p q r s
   unfolding quarter
-  first h = simp (lt-ltb _ _ h)
+  quarter-first h = simp (lt-ltb _ _ h)
 
-  pub second : 20 ≤ t → t < 40 → q ≡ quarter t p q r s
+  pub quarter-second : 20 ≤ t → t < 40 → q ≡ quarter t p q r s
   unfolding quarter
-  second g h = simp (le-ltb _ _ g, lt-ltb _ _ h)
+  quarter-second g h = simp (le-ltb _ _ g, lt-ltb _ _ h)
 
-  pub third : 40 ≤ t → t < 60 → r ≡ quarter t p q r s
+  pub quarter-third : 40 ≤ t → t < 60 → r ≡ quarter t p q r s
   unfolding quarter
-  third g h =
+  quarter-third g h =
       let e : 20 ≤ t = omega arith in
       simp (le-ltb _ _ e, le-ltb _ _ g, lt-ltb _ _ h)
 
-  pub fourth : 60 ≤ t → s ≡ quarter t p q r s
+  pub quarter-fourth : 60 ≤ t → s ≡ quarter t p q r s
   unfolding quarter
-  fourth g =
+  quarter-fourth g =
       let e : 20 ≤ t = omega arith in
       let f : 40 ≤ t = omega arith in
       simp (le-ltb _ _ e, le-ltb _ _ f, le-ltb _ _ g)

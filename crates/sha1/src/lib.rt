@@ -1,6 +1,7 @@
-// SHA-1 (FIPS 180-4) of a message that comes in pieces.
+// SHA-1 (FIPS 180-4) of a message that comes in pieces, and the message id.
 ghost use mathlib.Core.Path.{_≡_};
 ghost use Rattle.sha1.specs.Machine.{fresh, fed, fedAll, finished};
+ghost use Rattle.sha1.specs.Id.{saltBytes, idNumber, messageId};
 
 mod block;
 mod pieces;
@@ -21,6 +22,21 @@ pub struct Sha1 {
     pub total: u64,
 }
 
+// The salt of a message, where one is given.
+pub struct Salt {
+    pub given: bool,
+    pub value: i64,
+}
+
+// An id is a number of 28 bits.
+pub enum IdAnswer {
+    Is(u32),
+    Refused(u8),
+}
+
+// No payload is longer.
+pub const LONGEST_PAYLOAD: usize = 4096;
+
 impl Sha1 {
     // Nothing was fed.
     pub fn new() -> Sha1
@@ -37,6 +53,18 @@ impl Sha1 {
             block: [0u8; 64],
             total: 0,
         }
+    }
+
+    // A message id begins with its salt.
+    pub fn salted(salt: Salt) -> Sha1
+        ensures { λ r. ⌜ r ≡ fedAll fresh (saltBytes salt) ⌝ }
+    {
+        if !salt.given {
+            return Sha1::new();
+        }
+        let mut bytes = [0u8; 8];
+        octets::put_i64(salt.value, &mut bytes, 0);
+        Sha1::new().feed_all(&bytes)
     }
 
     // One byte more.
@@ -80,4 +108,22 @@ impl Sha1 {
         let end = pieces::put(pieces::put(pieces::put(self, &mark[0..n]), &zeros), &length);
         end.h
     }
+
+    // The id of what was fed: the digest's first 28 bits.
+    pub fn id(self) -> u32
+        ensures { λ r. ⌜ r ≡ idNumber (finished self) ⌝ }
+    {
+        let h = self.finish();
+        h.a >> 4
+    }
+}
+
+// The id of a payload that is there as a whole.
+pub fn message_id(salt: Salt, payload: &[u8]) -> IdAnswer
+    ensures { λ r. ⌜ r ≡ messageId salt (now (payload .entry)) ⌝ }
+{
+    if LONGEST_PAYLOAD < payload.len() {
+        return IdAnswer::Refused(refusals::PAYLOAD_TOO_LONG);
+    }
+    IdAnswer::Is(Sha1::salted(salt).feed_all(payload).id())
 }

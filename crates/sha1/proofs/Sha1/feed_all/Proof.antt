@@ -1,8 +1,7 @@
 -- A piece is what fills the waiting block, whole blocks, and the rest.
 use mathlib.Core.Path.{refl}
 use borrow.Author.Needs.{needs}
-use Rattle.sha1.specs.Sha1 as fips
-use Rattle.sha1.proofs.Ends.{filled, left, all-fed}
+use Rattle.sha1.proofs.Ends.{block-filled, left, all-fed}
 use Rattle.sha1.proofs.Sha1.feed_all.Statement.{statement}
 use Rattle.sha1.proofs.Sha1.feed_all.Tie as tie
 
@@ -12,7 +11,7 @@ blocks-requires c κs =
     let at-put2 = c .before .put2 in
     let at-struct-known = c .before .before .before .before .struct-known in
     let at-if1 = c .before .before .before .if1 in
-    filled (at-args .self) (at-put2 .result) (at-args .s .now) _ (at-struct-known .given .1 .1 .0 .fits) refl (at-if1 .left) (at-put2 .ensures)
+    block-filled (at-args .self) (at-put2 .result) (at-args .s .now) _ (at-struct-known .given .1 .1 .0 .fits) refl (at-if1 .left) (at-put2 .ensures)
 
 put-requires-3 : tie.Need-put-requires-3
 put-requires-3 c κs =

@@ -1,6 +1,5 @@
 -- The padding ends the waiting block, or the one after it.
 use borrow.Author.Needs.{needs}
-use Rattle.sha1.specs.Sha1 as fips
 use Rattle.sha1.proofs.Ends.{left, room-short, end-short, room-zeros, room-long, end-long}
 use Rattle.sha1.proofs.Sha1.finish.Statement.{statement}
 use Rattle.sha1.proofs.Sha1.finish.Tie as tie

@@ -6,7 +6,6 @@ use native.Mathlib.Numerals.{add-one}
 use borrow.Author.Needs.{needs}
 use Rattle.sha1.specs.declared.Hash.{Hash}
 use Rattle.sha1.specs.Sha1 as fips
-use Rattle.sha1.proofs.Schedule.{first}
 use Rattle.sha1.proofs.block.run.Statement.{statement}
 use Rattle.sha1.proofs.block.run.Tie as tie
 

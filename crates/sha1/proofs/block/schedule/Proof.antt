@@ -7,7 +7,6 @@ use lib.ListN.{length, take, drop, length-set}
 use lib.Seq.{take-all}
 use Rattle.sha1.specs.Sha1 as fips
 use Rattle.sha1.proofs.Schedule.{word-part, more, early, late}
-use Rattle.sha1.proofs.Ends.{filled}
 use Rattle.sha1.proofs.block.schedule.Statement.{statement}
 use Rattle.sha1.proofs.block.schedule.Tie as tie
 

@@ -1,9 +1,8 @@
--- The bits dropped past 64 are in no byte of the length.
+-- The bits dropped past 64 are in none of the eight bytes.
 use Prim.Native.Nat.{_*_, _%_, _^_}
 use mathlib.Core.Path.{_≡_, ap, _∙_}
 use native.Mathlib.Omega.{arith}
 use borrow.Author.Needs.{needs}
-use lib.ListN.{length}
 use Rattle.sha1.specs.Sha1 as fips
 use Rattle.sha1.proofs.AnyPieces.{low-bytes}
 use Rattle.sha1.proofs.pieces.length_bytes.Statement.{statement}

@@ -1,7 +1,6 @@
 -- The bytes stand at their place in the block, which is taken where they fill it.
 use mathlib.Core.Path.{refl}
 use borrow.Author.Needs.{needs}
-use Rattle.sha1.specs.Sha1 as fips
 use Rattle.sha1.proofs.Feed.{put-full, put-more}
 use Rattle.sha1.proofs.Ends.{left}
 use Rattle.sha1.proofs.pieces.put.Statement.{statement}
