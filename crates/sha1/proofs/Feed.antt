@@ -6,10 +6,10 @@ use Prim.Native.Nat.{ℕ, zero, suc, _+_, _-_, _*_, _/_, _%_, _^_, _≤_, _<_}
 use native.Mathlib.Omega.{arith}
 use borrow.Author.Tests.{eq-eqb, ne-eqb, eqb-true, eqb-false}
 use lib.ListN.{length, take, drop, set, length-take, length-drop, length-set, drop-of-length-le}
-use lib.Seq.{take-add, take-all}
+use lib.Seq.{take-add}
 use Rattle.octets.specs.Words.{if_then_else_, _=?_}
 use Rattle.octets.specs.Bytes.{placed}
-use Rattle.octets.proofs.Lists.{placed-in, placed-none, placed-next, length-placed}
+use Rattle.octets.proofs.Lists.{placed-in, placed-none, placed-next}
 use Rattle.sha1.specs.declared.Hash.{Hash}
 use Rattle.sha1.specs.declared.Sha1.{Sha1}
 use Rattle.sha1.specs.Sha1.{block, compressed, chain}
@@ -113,34 +113,33 @@ counted st (x ∷ s) small =
 
 -- ---- what the code makes, part by part
 
-module _ (st : Sha1) (s : List ℕ) (h : Hash) (filled : List ℕ) (total : ℕ) (size : length (st .block) ≡ 64) (small : st .total < 2 ^ 64) (t : total ≡ (st .total + length s) % 2 ^ 64) (b : filled ≡ placed s (st .total % 64) (st .block)) where
-  -- bytes that fill the block
-  pub put-full : st .total % 64 + length s ≡ 64 → h ≡ compressed (st .h) (take 64 (drop 0 filled)) → record { h = h; block = filled; total = total } ≡ fedAll st s
-  put-full e c =
-      let l : length filled ≡ 64 = ap length b ∙ length-placed s (st .total % 64) (st .block) ∙ size in
-      sym (within st s size small (omega arith) ∙ rw (eq-eqb (st .total % 64 + length s) 64 e, ← b, ← t, c, take-all 64 filled (omega arith)))
+-- bytes at their place in the block
+pub put-in : (st : Sha1) (s : List ℕ) (h : Hash) (filled : List ℕ) (total : ℕ) → length (st .block) ≡ 64 → st .total < 2 ^ 64 → st .total % 64 + length s ≤ 64
+    → filled ≡ placed s (st .total % 64) (st .block)
+    → h ≡ (if st .total % 64 + length s =? 64 then compressed (st .h) filled else st .h)
+    → total ≡ (st .total + length s) % 2 ^ 64
+    → record { h = h; block = filled; total = total } ≡ fedAll st s
+put-in st s h filled total size small k b c t = sym (within st s size small k ∙ rw (← b, ← c, ← t))
 
-  -- bytes that leave room in it
-  pub put-more : st .total % 64 + length s ≤ 64 → (st .total % 64 + length s ≡ 64 → ⊥) → h ≡ st .h → record { h = h; block = filled; total = total } ≡ fedAll st s
-  put-more k e c = sym (within st s size small k ∙ rw (ne-eqb (st .total % 64 + length s) 64 e, ← b, ← t, c))
-
-module _ (st : Sha1) (s : List ℕ) (n : ℕ) (size : length (st .block) ≡ 64) (small : st .total < 2 ^ 64) (z : st .total % 64 ≡ 0) (e : n ≡ length s / 64) where
+module _ (st : Sha1) (s : List ℕ) (size : length (st .block) ≡ 64) (small : st .total < 2 ^ 64) (z : st .total % 64 ≡ 0) where
   -- no whole block
-  pub run-none : n ≡ 0 → st ≡ fedAll st (take (64 * (length s / 64)) s)
-  run-none e′ =
+  pub blocks-none : length s / 64 * 64 ≡ 0 → st ≡ fedAll st (take (64 * (length s / 64)) s)
+  blocks-none e =
       let k : 64 * (length s / 64) ≡ 0 = omega arith in
       rw k
 
-  -- the last of n blocks is in the state's block
-  pub run-some : (h : Hash) (filled : List ℕ) (total : ℕ) → 0 < n → h ≡ chain (st .h) s n
-      → filled ≡ placed (take (64 * (n - 1) + 64 - 64 * (n - 1)) (drop (64 * (n - 1)) s)) 0 (st .block)
-      → total ≡ (st .total + (64 * (n - 1) + 64)) % 2 ^ 64
+  -- the last whole block is in the state's block
+  pub blocks-some : (h : Hash) (filled : List ℕ) (total end : ℕ) → end ≡ length s / 64 * 64 → (end ≡ 0 → ⊥) → h ≡ chain (st .h) s (length s / 64)
+      → filled ≡ placed (take (end - (end - 64)) (drop (end - 64) s)) 0 (st .block)
+      → total ≡ (st .total + end) % 2 ^ 64
       → record { h = h; block = filled; total = total } ≡ fedAll st (take (64 * (length s / 64)) s)
-  run-some h filled total p c b t =
-      let m : length s / 64 ≡ suc (n - 1) = omega arith in
-      let m′ : n ≡ suc (n - 1) = omega arith in
-      let w : 64 * (n - 1) + 64 - 64 * (n - 1) ≡ 64 = omega arith in
-      let u : 64 * (n - 1) + 64 ≡ 64 * suc (n - 1) = omega arith in
-      let l : length (block s (n - 1)) ≡ 64 = simp (length-take, length-drop) (omega arith) in
-      let f : filled ≡ block s (n - 1) = b ∙ rw w (over (block s (n - 1)) (st .block) (omega arith)) in
-      rw m (sym (whole st s size small z (n - 1) (omega arith) ∙ rw (← f, ← u, ← t, ← m′, ← c)))
+  blocks-some h filled total end e p c b t =
+      let n = length s / 64 - 1 in
+      let m : length s / 64 ≡ suc n = omega arith in
+      let u : end ≡ 64 * suc n = omega arith in
+      let w : end - (end - 64) ≡ 64 = omega arith in
+      let v : end - 64 ≡ 64 * n = omega arith in
+      let l : length (block s n) ≡ 64 = simp (length-take, length-drop) (omega arith) in
+      let f : filled ≡ block s n = b ∙ rw (w, v) (over (block s n) (st .block) (omega arith)) in
+      let c′ : h ≡ chain (st .h) s (suc n) = c ∙ ap (chain (st .h) s) m in
+      rw m (sym (whole st s size small z n (omega arith) ∙ rw (← f, ← u, ← t, ← c′)))

@@ -83,30 +83,19 @@ impl Sha1 {
         if s.len() < room {
             return pieces::put(self, s);
         }
-        let whole = (s.len() - room) / 64 * 64;
-        let end = room + whole;
         let started = pieces::put(self, &s[0..room]);
-        let chained = pieces::blocks(started, &s[room..end]);
-        pieces::put(chained, &s[end..])
+        pieces::from_start(started, &s[room..])
     }
 
     // The digest of what was fed.
     pub fn finish(self) -> Hash
         ensures { λ r. ⌜ r ≡ finished self ⌝ }
     {
-        let at = (self.total % 64) as usize;
-        let length = pieces::length_bytes(self.total);
-        let mut mark = [0u8; 64];
-        mark[0] = 0x80;
-        if at < 56 {
-            let n = 56 - at;
-            let end = pieces::put(pieces::put(self, &mark[0..n]), &length);
-            return end.h;
+        let total = self.total;
+        if total % 64 < 56 {
+            return pieces::close(pieces::mark(self, 56), total);
         }
-        let n = 64 - at;
-        let zeros = [0u8; 56];
-        let end = pieces::put(pieces::put(pieces::put(self, &mark[0..n]), &zeros), &length);
-        end.h
+        pieces::close(pieces::zeros(pieces::mark(self, 64)), total)
     }
 
     // The id of what was fed: the digest's first 28 bits.

@@ -1,9 +1,11 @@
 // Feeding: bytes that stay within one block, and whole blocks.
 ghost use mathlib.Core.Path.{_≡_};
-ghost use Prim.Native.Nat.{_+_, _*_, _/_, _%_, _≤_};
-ghost use lib.ListN.{length, take};
+ghost use mathlib.Core.List.{_∷_};
+ghost use Prim.Native.Nat.{_+_, _-_, _*_, _/_, _%_, _<_, _≤_};
+ghost use lib.ListN.{length, take, replicate};
 ghost use Rattle.sha1.specs.Sha1.{big64};
 ghost use Rattle.sha1.specs.Machine.{fedAll};
+use super::Hash;
 use super::Sha1;
 use super::block;
 
@@ -16,17 +18,10 @@ pub(crate) fn put(st: Sha1, s: &[u8]) -> Sha1
     let h = st.h;
     let mut filled = st.block;
     octets::copy_at(s, &mut filled, at);
+    let next = block::taken(h, &filled, at + s.len());
     let total = std::num::wrapping_add_u64(st.total, s.len() as u64);
-    if at + s.len() == 64 {
-        let next = block::compress(h, &filled, 0);
-        return Sha1 {
-            h: next,
-            block: filled,
-            total,
-        };
-    }
     Sha1 {
-        h,
+        h: next,
         block: filled,
         total,
     }
@@ -37,18 +32,12 @@ pub(crate) fn blocks(st: Sha1, s: &[u8]) -> Sha1
     requires { ⌜ st .total % 64 ≡ 0 ⌝ }
     ensures { λ r. ⌜ r ≡ fedAll st (take (64 * (length (now (s .entry)) / 64)) (now (s .entry))) ⌝ }
 {
-    let count = s.len() / 64;
-    if count == 0 {
+    let end = s.len() / 64 * 64;
+    if end == 0 {
         return st;
     }
-    let mut h = st.h;
-    let mut n: usize = 0;
-    while n < count {
-        h = block::compress(h, s, 64 * n);
-        n += 1;
-    }
-    let last = 64 * (count - 1);
-    let end = last + 64;
+    let h = block::chain(st.h, s);
+    let last = end - 64;
     let mut filled = st.block;
     octets::copy_at(&s[last..end], &mut filled, 0);
     let total = std::num::wrapping_add_u64(st.total, end as u64);
@@ -59,8 +48,47 @@ pub(crate) fn blocks(st: Sha1, s: &[u8]) -> Sha1
     }
 }
 
+// A piece where no block has begun: its whole blocks, and the rest.
+pub(crate) fn from_start(st: Sha1, s: &[u8]) -> Sha1
+    requires { ⌜ st .total % 64 ≡ 0 ⌝ }
+    ensures { λ r. ⌜ r ≡ fedAll st (now (s .entry)) ⌝ }
+{
+    let end = s.len() / 64 * 64;
+    put(blocks(st, s), &s[end..])
+}
+
+// The padding's first byte and zeros, up to the place `to`.
+pub(crate) fn mark(st: Sha1, to: usize) -> Sha1
+    requires { ⌜ (st .total % 64 < to) × (to ≤ 64) ⌝ }
+    ensures { λ r. ⌜ r ≡ fedAll st (0x80 ∷ replicate (to - st .total % 64 - 1) 0) ⌝ }
+{
+    let n = to - (st.total % 64) as usize;
+    let mut bytes = [0u8; 64];
+    bytes[0] = 0x80;
+    put(st, &bytes[0..n])
+}
+
+// Zeros up to the length's place, in a block of their own.
+pub(crate) fn zeros(st: Sha1) -> Sha1
+    requires { ⌜ st .total % 64 ≡ 0 ⌝ }
+    ensures { λ r. ⌜ r ≡ fedAll st (replicate 56 0) ⌝ }
+{
+    let bytes = [0u8; 56];
+    put(st, &bytes)
+}
+
+// The length ends the last block.
+pub(crate) fn close(st: Sha1, total: u64) -> Hash
+    requires { ⌜ st .total % 64 ≡ 56 ⌝ }
+    ensures { λ r. ⌜ r ≡ fedAll st (big64 (8 * total)) .h ⌝ }
+{
+    let bytes = length_bytes(total);
+    let end = put(st, &bytes);
+    end.h
+}
+
 // The length in bits of a message of `total` bytes, the highest byte first.
-pub(crate) fn length_bytes(total: u64) -> [u8; 8]
+fn length_bytes(total: u64) -> [u8; 8]
     ensures { λ r. ⌜ r ≡ big64 (8 * total) ⌝ }
 {
     let bits = total << 3;

@@ -1,6 +1,5 @@
 -- The salt, then the payload.
 use borrow.Author.Needs.{needs}
-use Rattle.sha1.proofs.Ends.{left}
 use Rattle.sha1.proofs.Ids.{salted, too-long, whole-id}
 use Rattle.sha1.proofs.message_id.Statement.{statement}
 use Rattle.sha1.proofs.message_id.Tie as tie

@@ -3,7 +3,6 @@ use borrow.Author.Needs.{needs}
 use mir.Syntax.{w64}
 use mir.ValLaws.{toZ-ofZ}
 use borrow.Author.Tests.{not-true, not-false}
-use Rattle.sha1.proofs.Ends.{left}
 use Rattle.sha1.proofs.Ids.{unsalted, salted}
 use Rattle.sha1.proofs.Sha1.salted.Statement.{statement}
 use Rattle.sha1.proofs.Sha1.salted.Tie as tie

@@ -1,6 +1,5 @@
 -- Each quarter of the rounds has its function.
 use Rattle.sha1.proofs.Schedule.{quarter-first, quarter-second, quarter-third, quarter-fourth}
-use Rattle.sha1.proofs.Ends.{left}
 use Rattle.sha1.proofs.block.f.Statement.{statement}
 use Rattle.sha1.proofs.block.f.Tie as tie
 
