@@ -34,10 +34,24 @@ module _ {A : Type 0} (t : ℕ) (p q r s : A) where
       let f : 40 ≤ t = omega arith in
       simp (le-ltb _ _ e, le-ltb _ _ f, le-ltb _ _ g)
 
--- four sums that drop their carry are one sum modulo 2^32
-pub sum5 : (r f e k w x y z v : ℕ) → x ≡ (r + f) % 2 ^ 32 → y ≡ (x + e) % 2 ^ 32 → z ≡ (y + k) % 2 ^ 32 → v ≡ (z + w) % 2 ^ 32
-    → v ≡ (r + f + e + k + w) % 2 ^ 32
-sum5 r f e k w x y z v p q s u = omega arith
+-- sums that drop their carry one by one are one sum modulo 2^32
+abbrev pub sum : ℕ → ℕ → ℕ
+sum x y = (x + y) % 2 ^ 32
+
+carry-left : (a b : ℕ) → sum (a % 2 ^ 32) b ≡ sum a b
+carry-left a b = omega arith
+
+carry-right : (a b : ℕ) → sum a (b % 2 ^ 32) ≡ sum a b
+carry-right a b = omega arith
+
+order : (r f e k w : ℕ) → r + (f + k) + e + w ≡ r + f + e + k + w
+order r f e k w = omega arith
+
+pub sum5 : (r f e k w x y z v : ℕ) → x ≡ sum f k → y ≡ sum r x → z ≡ sum y e → v ≡ sum z w → v ≡ (r + f + e + k + w) % 2 ^ 32
+sum5 r f e k w x y z v p q s u =
+    let a : y ≡ sum r (f + k) = q ∙ ap (sum r) p ∙ carry-right r (f + k) in
+    let b : z ≡ sum (r + (f + k)) e = s ∙ ap (λ n. sum n e) a ∙ carry-left (r + (f + k)) e in
+    u ∙ ap (λ n. sum n w) b ∙ carry-left (r + (f + k) + e) w ∙ ap (λ n. n % 2 ^ 32) (order r f e k w)
 
 -- ---- the schedule as it is filled
 

@@ -1,70 +1,44 @@
 // One block (FIPS 180-4, 6.1.2): the message schedule, the eighty rounds, the sums.
 ghost use mathlib.Core.Path.{_≡_};
-ghost use Prim.Native.Nat.{_+_, _*_, _/_, _^_, _<_, _≤_};
+ghost use Prim.Native.Nat.{_+_, _*_, _/_, _%_, _^_, _<_, _≤_};
 ghost use lib.ListN.{length, take, drop};
 ghost use Rattle.octets.specs.Words.{if_then_else_, _=?_};
 ghost use Rattle.sha1.specs.declared.Hash.{Hash};
 ghost use Rattle.sha1.specs.Sha1 as fips;
 use super::Hash;
 
-fn rotl1(x: u32) -> u32
-    ensures { λ r. ⌜ r ≡ fips.rotl 1 x ⌝ }
+fn rotl(n: u32, x: u32) -> u32
+    requires { ⌜ (0 < n) × (n < 32) ⌝ }
+    ensures { λ r. ⌜ r ≡ fips.rotl n x ⌝ }
 {
-    (x << 1) | (x >> 31)
+    (x << n) | (x >> (32 - n))
 }
 
-fn rotl5(x: u32) -> u32
-    ensures { λ r. ⌜ r ≡ fips.rotl 5 x ⌝ }
-{
-    (x << 5) | (x >> 27)
-}
-
-fn rotl30(x: u32) -> u32
-    ensures { λ r. ⌜ r ≡ fips.rotl 30 x ⌝ }
-{
-    (x << 30) | (x >> 2)
-}
-
-fn f(t: usize, x: u32, y: u32, z: u32) -> u32
-    ensures { λ r. ⌜ r ≡ fips.f t x y z ⌝ }
+// The function and the constant of round t, added.
+fn f_and_k(t: usize, x: u32, y: u32, z: u32) -> u32
+    ensures { λ r. ⌜ r ≡ (fips.f t x y z + fips.k t) % 2 ^ 32 ⌝ }
 {
     if t < 20 {
-        return (x & y) ^ (!x & z);
+        return std::num::wrapping_add_u32((x & y) ^ (!x & z), 0x5A827999);
     }
     if t < 40 {
-        return x ^ y ^ z;
+        return std::num::wrapping_add_u32(x ^ y ^ z, 0x6ED9EBA1);
     }
     if t < 60 {
-        return (x & y) ^ (x & z) ^ (y & z);
+        return std::num::wrapping_add_u32((x & y) ^ (x & z) ^ (y & z), 0x8F1BBCDC);
     }
-    x ^ y ^ z
-}
-
-fn k(t: usize) -> u32
-    ensures { λ r. ⌜ r ≡ fips.k t ⌝ }
-{
-    if t < 20 {
-        return 0x5A827999;
-    }
-    if t < 40 {
-        return 0x6ED9EBA1;
-    }
-    if t < 60 {
-        return 0x8F1BBCDC;
-    }
-    0xCA62C1D6
+    std::num::wrapping_add_u32(x ^ y ^ z, 0xCA62C1D6)
 }
 
 fn round(t: usize, w: u32, s: Hash) -> Hash
     ensures { λ r. ⌜ r ≡ fips.round t w s ⌝ }
 {
-    let x = std::num::wrapping_add_u32(rotl5(s.a), f(t, s.b, s.c, s.d));
+    let x = std::num::wrapping_add_u32(rotl(5, s.a), f_and_k(t, s.b, s.c, s.d));
     let y = std::num::wrapping_add_u32(x, s.e);
-    let z = std::num::wrapping_add_u32(y, k(t));
     Hash {
-        a: std::num::wrapping_add_u32(z, w),
+        a: std::num::wrapping_add_u32(y, w),
         b: s.a,
-        c: rotl30(s.b),
+        c: rotl(30, s.b),
         d: s.c,
         e: s.d,
     }
@@ -100,7 +74,7 @@ fn mix(w: &[u32; 80], t: usize) -> u32
     requires { ⌜ (16 ≤ t) × (t < 80) ⌝ }
     ensures { λ r. ⌜ r ≡ fips.mixed (now (w .entry)) t ⌝ }
 {
-    rotl1(w[t - 3] ^ w[t - 8] ^ w[t - 14] ^ w[t - 16])
+    rotl(1, w[t - 3] ^ w[t - 8] ^ w[t - 14] ^ w[t - 16])
 }
 
 // The eighty words of the block at `at`: sixteen of its own, each other one of four before it.
