@@ -38,7 +38,7 @@ pub first-bits : (h : Hash) → h .a < 2 ^ 32 → h .a / 2 ^ 4 ≡ idNumber h
 first-bits h k = sym (ap (λ s. hexValue s) (seven (h .a) _) ∙ hex-back 7 (h .a / 16) (omega arith))
 
 -- what `text` writes of an id's number are the digest's first seven digits
-pub written : (h : Hash) → h .a < 2 ^ 32 → hexDigits 7 (idNumber h) ≡ firstSeven h
+written : (h : Hash) → h .a < 2 ^ 32 → hexDigits 7 (idNumber h) ≡ firstSeven h
 written h k = ap (hexDigits 7) (sym (first-bits h k)) ∙ sym (seven (h .a) _)
 
 -- a digest's words have 32 bits
@@ -51,9 +51,13 @@ pub sha1-written : (s : List ℕ) → hexDigits 7 (idNumber (sha1 s)) ≡ firstS
 unfolding sha1
 sha1-written s = written (sha1 s) (chain-lt _ _)
 
--- a salt and then a payload in any pieces give the payload's id
-pub id-of-pieces : (salt : Salt) (ps : List (List ℕ)) → idNumber (finished (fedPieces (fedAll fresh (saltBytes salt)) ps)) ≡ idNumber (sha1 (saltBytes salt ++ joined ps))
-id-of-pieces salt ps = ap idNumber (any-pieces (saltBytes salt ∷ ps))
+short-enough : (salt : Salt) (payload : List ℕ) → length payload ≤ longestPayload → Is (idNumber (sha1 (saltBytes salt ++ payload))) ≡ messageId salt payload
+short-enough salt payload k = sym (if-no _ _ _ (le-ltb longestPayload (length payload) k))
+
+-- a salt and then a payload in any pieces: the id is that of the payload as a whole
+pub id-of-pieces : (salt : Salt) (ps : List (List ℕ)) → length (joined ps) ≤ longestPayload
+    → Is (idNumber (finished (fedPieces (fedAll fresh (saltBytes salt)) ps))) ≡ messageId salt (joined ps)
+id-of-pieces salt ps k = ap (λ h. Is (idNumber h)) (any-pieces (saltBytes salt ∷ ps)) ∙ short-enough salt (joined ps) k
 
 -- ---- what the code makes
 
@@ -76,5 +80,4 @@ module _ (salt : Salt) where
         → Is n ≡ messageId salt payload
     whole-id n begun st k p q e =
         let fed : st ≡ fedAll fresh (saltBytes salt ++ payload) = q ∙ ap (λ st. fedAll st payload) p ∙ sym (parts fresh (saltBytes salt) payload) in
-        ap Is (e ∙ ap (λ st. idNumber (finished st)) fed ∙ ap idNumber (digest (saltBytes salt ++ payload)))
-        ∙ sym (if-no _ _ _ (le-ltb longestPayload (length payload) k))
+        ap Is (e ∙ ap (λ st. idNumber (finished st)) fed ∙ ap idNumber (digest (saltBytes salt ++ payload))) ∙ short-enough salt payload k

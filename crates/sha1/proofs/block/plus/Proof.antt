@@ -1,7 +1,6 @@
--- Each wrapping sum is the sum modulo 2^32.
+-- Each addition wraps at 2^32.
 use borrow.Author.Needs.{needs}
 use Rattle.sha1.specs.Sha1 as fips
-use Rattle.sha1.proofs.Schedule.{sum}
 use Rattle.sha1.proofs.block.plus.Statement.{statement}
 use Rattle.sha1.proofs.block.plus.Tie as tie
 

@@ -1,7 +1,7 @@
--- The wrapping sums are one sum modulo 2^32.
+-- The additions that wrap are one, modulo 2^32.
 use borrow.Author.Needs.{needs}
 use Rattle.sha1.specs.Sha1 as fips
-use Rattle.sha1.proofs.Schedule.{sum, sum5}
+use Rattle.sha1.proofs.Schedule.{sum5}
 use Rattle.sha1.proofs.block.round.Statement.{statement}
 use Rattle.sha1.proofs.block.round.Tie as tie
 
