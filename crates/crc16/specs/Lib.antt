@@ -1,0 +1,2 @@
+-- The check that ends an `ihave` line.
+pub mod Crc

@@ -1,0 +1,49 @@
+-- The padding ends the waiting block, or the one after it.
+use mathlib.Core.Path.{refl}
+use borrow.Author.Needs.{needs}
+use Rattle.sha1.proofs.Ends.{marked-to, zeros-to, end-short, end-long}
+use Rattle.sha1.proofs.Sha1.finish.Statement.{statement}
+use Rattle.sha1.proofs.Sha1.finish.Tie as tie
+
+close-requires : tie.Need-close-requires
+close-requires c κs =
+    let at-args = c .before .before .args in
+    marked-to (at-args .self) (c .mark .result) (search needs) 56 (c .before .if1 .taken) (search needs) (c .mark .ensures)
+
+returns : tie.Need-returns
+returns c =
+    let at-args = c .before .before .before .args in
+    let at-mark = c .before .mark in
+    let at-if1 = c .before .before .if1 in
+    end-short (at-args .self) (at-mark .result) _ (at-if1 .taken) (at-mark .ensures) (c .close .ensures)
+
+zeros-requires : tie.Need-zeros-requires
+zeros-requires c κs =
+    let at-args = c .before .before .args in
+    marked-to (at-args .self) (c .mark2 .result) (search needs) 64 (search needs) (search needs) (c .mark2 .ensures)
+
+close-requires-2 : tie.Need-close-requires-2
+close-requires-2 c κs =
+    let at-args = c .before .before .before .args in
+    let at-mark2 = c .before .mark2 in
+    zeros-to (at-args .self) (at-mark2 .result) (search needs) 64 (search needs) (search needs) (at-mark2 .ensures) refl (c .zeros .result) (c .zeros .ensures)
+
+returns-2 : tie.Need-returns-2
+returns-2 c =
+    let at-args = c .before .before .before .before .args in
+    let at-mark2 = c .before .before .mark2 in
+    let at-zeros = c .before .zeros in
+    let at-if1 = c .before .before .before .if1 in
+    end-long (at-args .self) (at-mark2 .result) _ (at-zeros .result) (at-if1 .left) (at-mark2 .ensures) (at-zeros .ensures) (c .close2 .ensures)
+
+pub finish-spec : {M : Type 1} → statement M
+finish-spec =
+    tie.close
+    (tie.spec
+    (λ c κs. search needs)
+    close-requires
+    returns
+    (λ c κs. search needs)
+    zeros-requires
+    close-requires-2
+    returns-2)
