@@ -6,14 +6,14 @@ use mathlib.Core.Bool.{Bool, true, false}
 use mathlib.Core.List.{List, [], _∷_, _++_}
 use lib.ListN.{length, take, drop, replicate, length-replicate}
 use lib.Seq.{take-append-seam, drop-append-seam}
-use borrow.Author.Tests.{le-leb, leb-true, leb-false, lt-ltb, ltb-true, ltb-false, eqb-false}
+use borrow.Author.Tests.{eq-eqb, le-leb, leb-true, leb-false, lt-ltb, ltb-true, ltb-false, eqb-true, eqb-false}
 use Rattle.octets.specs.Words.{if_then_else_, _and_, _or_, every, between, _<?_, _≤?_, _=?_}
 use Rattle.octets.proofs.Tests.{and-left, and-right, and-both, and-next, inside, inside-low, inside-high, true-not-false}
 use Rattle.rows.specs.declared.Held.{Held}
 use Rattle.rows.specs.declared.Row.{Row}
 use Rattle.rows.specs.Stream.{Stream, word, words, ascending, above, holds, gapOpen, ordered, timed, small, keeps}
-use Rattle.rows.specs.Row.{blank, isBlank, heldIn, streamOf, places, rowOf, keepsRow}
-use Rattle.rows.proofs.Packing.{Placed, counted, placed, all-blank}
+use Rattle.rows.specs.Row.{blank, isBlank, heldIn, streamOf, places, rowOf, keepsRow, noRow, isNoRow}
+use Rattle.rows.proofs.Packing.{Placed, counted, placed, blanks, all-blank, length-places}
 
 -- ---- a stream that keeps the rules
 
@@ -59,6 +59,7 @@ timed-left a b false d p q z = rw (p, q)
 -- ---- a row that keeps them
 
 pub record KeptRow (r : Row) : Type 0 where
+  pub long : length (r .held) ≡ 16
   pub most : r .count ≤ 16
   pub bare : every isBlank (drop (r .count) (r .held)) ≡ true
   pub stream : Kept (streamOf r)
@@ -66,15 +67,17 @@ pub record KeptRow (r : Row) : Type 0 where
 pub kept-row : (r : Row) → keepsRow r ≡ true → KeptRow r
 unfolding keepsRow
 kept-row r e =
-    let f = and-right (r .count ≤? 16) _ e in
+    let f = and-right (length (r .held) =? 16) _ e in
+    let g = and-right (r .count ≤? 16) _ f in
     record {
-      most = leb-true _ _ (and-left (r .count ≤? 16) _ e);
-      bare = and-left (every isBlank (drop (r .count) (r .held))) _ f;
-      stream = kept (streamOf r) (and-right (every isBlank (drop (r .count) (r .held))) _ f);
+      long = eqb-true _ _ (and-left (length (r .held) =? 16) _ e);
+      most = leb-true _ _ (and-left (r .count ≤? 16) _ f);
+      bare = and-left (every isBlank (drop (r .count) (r .held))) _ g;
+      stream = kept (streamOf r) (and-right (every isBlank (drop (r .count) (r .held))) _ g);
     }
 
-pub placed-in : (r : Row) → length (r .held) ≡ 16 → keepsRow r ≡ true → Placed (r .count) (r .held)
-placed-in r l e = record { long = l; most = kept-row r e .most; bare = kept-row r e .bare }
+pub placed-in : (r : Row) → keepsRow r ≡ true → Placed (r .count) (r .held)
+placed-in r e = let k = kept-row r e in record { long = k .long; most = k .most; bare = k .bare }
 
 -- a row from its parts
 pub row-is : (s : Stream) (n : ℕ) (h : List Held) → n ≡ length (s .held) → h ≡ places (s .held)
@@ -82,8 +85,24 @@ pub row-is : (s : Stream) (n : ℕ) (h : List Held) → n ≡ length (s .held) �
 row-is s n h p q = λ i. record { expected = s .expected; clock = s .clock; «gap_start» = s .gapStart; count = p i; held = q i }
 
 -- packing what a row stands for gives the row
-pub packs : (r : Row) → length (r .held) ≡ 16 → keepsRow r ≡ true → r ≡ rowOf (streamOf r)
-packs r l e = row-is (streamOf r) (r .count) (r .held) (counted _ _ (placed-in r l e)) (placed _ _ (placed-in r l e))
+pub packs : (r : Row) → keepsRow r ≡ true → r ≡ rowOf (streamOf r)
+packs r e = row-is (streamOf r) (r .count) (r .held) (counted _ _ (placed-in r e)) (placed _ _ (placed-in r e))
+
+-- a row of zeros is `noRow`
+pub no-row : (r : Row) → isNoRow r ≡ true → r ≡ noRow
+unfolding isNoRow
+no-row r e =
+    let e1 = and-right (length (r .held) =? 16) _ e in
+    let e2 = and-right (r .expected =? 0) _ e1 in
+    let e3 = and-right (r .clock =? 0) _ e2 in
+    let e4 = and-right (r .«gap_start» =? 0) _ e3 in
+    let n = eqb-true (length (r .held)) 16 (and-left _ _ e) in
+    let a = eqb-true _ _ (and-left (r .expected =? 0) _ e1) in
+    let b = eqb-true _ _ (and-left (r .clock =? 0) _ e2) in
+    let c = eqb-true _ _ (and-left (r .«gap_start» =? 0) _ e3) in
+    let d = eqb-true _ _ (and-left (r .count =? 0) _ e4) in
+    let h = blanks (r .held) (and-right (r .count =? 0) _ e4) ∙ ap (λ (k : ℕ). replicate k blank) n in
+    λ i. record { expected = a i; clock = b i; «gap_start» = c i; count = d i; held = h i }
 
 -- ---- room for one more
 
@@ -123,3 +142,21 @@ room s n k h d f = go (s .expected <? n) refl
     go false q =
         let e : n ≡ s .expected = omega (arith, ltb-false (s .expected) n q) in
         omega (arith, k .few, room-expected (s .expected) (s .held) (k .order) (rw e at d))
+
+-- sixteen hold all that the rules allow
+pub held-most : (s : Stream) → Kept s → length (s .held) ≤ 16
+held-most s k = omega (arith, k .few, room-above (s .expected) (s .held) (k .order))
+
+-- ---- the packing of a stream
+
+pub unpacks : (s : Stream) → streamOf (rowOf s) ≡ s
+unpacks s = ap {B = Stream} (λ (l : List Held). record { expected = s .expected; clock = s .clock; gapStart = s .gapStart; held = l }) (take-append-seam (s .held) _)
+
+-- a stream that keeps the rules is packed into a row that does
+pub keeps-row : (s : Stream) → keeps s ≡ true → keepsRow (rowOf s) ≡ true
+unfolding keepsRow
+keeps-row s e =
+    let m = held-most s (kept s e) in
+    and-both _ _ (eq-eqb _ _ (length-places (s .held) m))
+    (and-both _ _ (le-leb _ _ m)
+    (and-both _ _ (ap (every isBlank) (drop-append-seam (s .held) _) ∙ all-blank (16 - length (s .held))) (ap keeps (unpacks s) ∙ e)))

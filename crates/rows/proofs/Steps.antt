@@ -19,13 +19,13 @@ use Rattle.rows.proofs.Rules.{placed-in, row-is, packs}
 pub with-row : (a : Answer) (r q : Row) → r ≡ q → _≡_ {A = Outcome Row} (record { answer = a; after = r }) (record { answer = a; after = q })
 with-row a r q e = ap {B = Outcome Row} (λ (x : Row). record { answer = a; after = x }) e
 
-module _ (r : Row) (long : length (r .held) ≡ 16) (k : keepsRow r ≡ true) where
+module _ (r : Row) (k : keepsRow r ≡ true) where
   w : Placed (r .count) (r .held)
-  w = placed-in r long k
+  w = placed-in r k
 
   -- a refusal hands the row back as it came
   pub refusal-is : (n : ℕ) → refuse n r ≡ packed (refuse n (streamOf r))
-  refusal-is n = with-row (refused n) _ _ (packs r long k)
+  refusal-is n = with-row (refused n) _ _ (packs r k)
 
   pub stay-is : (clock : ℕ)
       → _≡_ {A = Outcome Row}
@@ -66,7 +66,7 @@ module _ (r : Row) (long : length (r .held) ≡ 16) (k : keepsRow r ≡ true) wh
     lowest = getD (r .held) 0 blank
 
     pub first-held : heldIn r ≡ getD (r .held) 0 blank ∷ take (r .count - 1) (drop 1 (r .held))
-    first-held = lowest-of (r .held) (r .count) z (omega arith)
+    first-held = lowest-of (r .held) (r .count) z (omega (arith, w .long))
 
     pub give-is : (clock next start : ℕ) (rest : List Held) (after : Bool)
         → rest ≡ drop 1 (r .held) ++ (blank ∷ [])

@@ -34,16 +34,17 @@ places l = l ++ replicate (16 - length l) blank
 abbrev pub rowOf : Stream → Row
 rowOf s = record { expected = s .expected; clock = s .clock; «gap_start» = s .gapStart; count = length (s .held); held = places (s .held) }
 
--- the state rules of a row (40): at most sixteen held, the places past the count all zero, and the rules of the row that it stands for
+-- the state rules of a row (40): sixteen places, at most sixteen held, the places past the count all zero, and the rules of the row that it
+-- stands for
 unfoldable pub keepsRow : Row → Bool
-keepsRow r = r .count ≤? 16 and every isBlank (drop (r .count) (r .held)) and keeps (streamOf r)
+keepsRow r = length (r .held) =? 16 and r .count ≤? 16 and every isBlank (drop (r .count) (r .held)) and keeps (streamOf r)
 
 -- a row that is all zero: no stream's
 abbrev pub noRow : Row
 noRow = record { expected = 0; clock = 0; «gap_start» = 0; count = 0; held = replicate 16 blank }
 
 unfoldable pub isNoRow : Row → Bool
-isNoRow r = r .expected =? 0 and r .clock =? 0 and r .«gap_start» =? 0 and r .count =? 0 and every isBlank (r .held)
+isNoRow r = length (r .held) =? 16 and r .expected =? 0 and r .clock =? 0 and r .«gap_start» =? 0 and r .count =? 0 and every isBlank (r .held)
 
 -- ---- the calls: 40 first, then what document 01 says of the row
 

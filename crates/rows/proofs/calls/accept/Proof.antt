@@ -3,7 +3,7 @@ use native.Mathlib.Omega.{arith}
 use borrow.Author.Needs.{needs}
 use Rattle.rows.specs.Stream.{offer}
 use Rattle.rows.specs.Row.{heldIn}
-use Rattle.rows.proofs.Packing.{place-le, unmapped}
+use Rattle.rows.proofs.Packing.{place-le}
 use Rattle.rows.proofs.Rules.{kept-row}
 use Rattle.rows.proofs.Steps.{accept-is}
 use Rattle.rows.proofs.calls.accept.Statement.{statement}
@@ -35,7 +35,7 @@ returns c =
     let at-place = c .before .before .before .before .place in
     let at-with-at = c .before .before .before .with-at in
     let at-gap-open = c .before .before .gap-open in
-    accept-is (at-args .r) (search unmapped) (at-pre .0) (at-args .m) (at-args .clock) _ _ _ _ _ (at-pre .1) (at-place .ensures) (at-with-at .ensures) (at-gap-open .ensures) (c .before .gap-open2 .ensures) (c .start-after .ensures)
+    accept-is (at-args .r) (at-pre .0) (at-args .m) (at-args .clock) _ _ _ _ _ (at-pre .1) (at-place .ensures) (at-with-at .ensures) (at-gap-open .ensures) (c .before .gap-open2 .ensures) (c .start-after .ensures)
 
 pub accept-spec : {M : Type 1} → statement M
 accept-spec =

@@ -1,6 +1,5 @@
 -- The lowest is given, and the rest is the row after it.
 use borrow.Author.Needs.{needs}
-use Rattle.rows.proofs.Packing.{unmapped}
 use Rattle.rows.proofs.Steps.{give-is}
 use Rattle.rows.proofs.calls.give.Statement.{statement}
 use Rattle.rows.proofs.calls.give.Tie as tie
@@ -11,7 +10,7 @@ returns c =
     let at-pre = c .before .before .before .before .before .before .before .pre in
     let at-without-first = c .before .before .before .before .without-first in
     let at-wide = c .before .before .wide in
-    give-is (at-args .r) (search unmapped) (at-pre .0) (at-pre .1) (at-args .clock) _ _ _ _ (at-without-first .ensures) (at-wide .ensures .0) (c .before .gap-open .ensures) (c .start-after .ensures)
+    give-is (at-args .r) (at-pre .0) (at-pre .1) (at-args .clock) _ _ _ _ (at-without-first .ensures) (at-wide .ensures .0) (c .before .gap-open .ensures) (c .start-after .ensures)
 
 pub give-spec : {M : Type 1} → statement M
 give-spec =

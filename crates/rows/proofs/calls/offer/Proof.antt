@@ -1,32 +1,26 @@
 -- The tests in document 01's order; behind them the message has its place.
 use Prim.Native.Nat.{ℕ}
-use mathlib.Core.Path.{_≡_, sym, ap, _∙_}
+use mathlib.Core.Path.{sym, ap, _∙_}
 use native.Mathlib.Omega.{arith}
 use borrow.Author.Needs.{needs}
 use borrow.Author.Tests.{lt-ltb, le-ltb}
-use lib.ListN.{length}
 use Rattle.octets.specs.Words.{_<?_}
 use Rattle.octets.proofs.Tests.{if-yes, if-no}
 use Rattle.rows.specs.Stream.{accept, offer}
 use Rattle.rows.specs.Row.{streamOf, packed}
 use Rattle.rows.specs.Steps.{full}
-use Rattle.rows.proofs.Packing.{unmapped}
 use Rattle.rows.proofs.Rules.{kept-row, room}
 use Rattle.rows.proofs.Steps.{refusal-is}
 use Rattle.rows.proofs.calls.offer.Statement.{statement}
 use Rattle.rows.proofs.calls.offer.Tie as tie
 
-long : (c : tie.Start) → length (c .args .r .held) ≡ 16
-long c = search unmapped
-
 returns : tie.Need-returns
 unfolding offer
 returns c =
     let at-args = c .before .before .before .before .before .args in
-    let at-start = c .before .before .before .before .before in
     let at-pre = c .before .before .before .before .before .pre in
     let at-wide = c .before .before .before .wide in
-    c .refused .ensures ∙ refusal-is (at-args .r) (long (at-start)) (at-pre) 10 ∙ ap packed (sym (if-yes _ _ _ (ap (λ (n : ℕ). n <? at-args .r .expected) (sym (at-wide .ensures .0)) ∙ lt-ltb _ _ (c .before .if1 .taken))))
+    c .refused .ensures ∙ refusal-is (at-args .r) (at-pre) 10 ∙ ap packed (sym (if-yes _ _ _ (ap (λ (n : ℕ). n <? at-args .r .expected) (sym (at-wide .ensures .0)) ∙ lt-ltb _ _ (c .before .if1 .taken))))
 
 has-requires : tie.Need-has-requires
 has-requires c κs =
@@ -37,12 +31,11 @@ returns-2 : tie.Need-returns-2
 unfolding offer
 returns-2 c =
     let at-args = c .before .before .before .before .before .before .before .args in
-    let at-start = c .before .before .before .before .before .before .before in
     let at-pre = c .before .before .before .before .before .before .before .pre in
     let at-wide = c .before .before .before .before .before .wide in
     let at-if1 = c .before .before .before .if1 in
     let at-has = c .before .before .has in
-    c .refused2 .ensures ∙ refusal-is (at-args .r) (long (at-start)) (at-pre) 11 ∙ ap packed (sym (if-no _ _ _ (ap (λ (n : ℕ). n <? at-args .r .expected) (sym (at-wide .ensures .0)) ∙ le-ltb _ _ (at-if1 .left)) ∙ if-yes _ _ _ (sym (at-has .ensures) ∙ c .before .if2 .taken)))
+    c .refused2 .ensures ∙ refusal-is (at-args .r) (at-pre) 11 ∙ ap packed (sym (if-no _ _ _ (ap (λ (n : ℕ). n <? at-args .r .expected) (sym (at-wide .ensures .0)) ∙ le-ltb _ _ (at-if1 .left)) ∙ if-yes _ _ _ (sym (at-has .ensures) ∙ c .before .if2 .taken)))
 
 is-full-requires : tie.Need-is-full-requires
 is-full-requires c κs =
@@ -53,14 +46,13 @@ returns-3 : tie.Need-returns-3
 unfolding offer
 returns-3 c =
     let at-args = c .before .before .before .before .before .before .before .before .before .args in
-    let at-start = c .before .before .before .before .before .before .before .before .before in
     let at-pre = c .before .before .before .before .before .before .before .before .before .pre in
     let at-wide = c .before .before .before .before .before .before .before .wide in
     let at-if1 = c .before .before .before .before .before .if1 in
     let at-has = c .before .before .before .before .has in
     let at-if2 = c .before .before .before .if2 in
     let at-is-full = c .before .before .is-full in
-    c .refused3 .ensures ∙ refusal-is (at-args .r) (long (at-start)) (at-pre) 12 ∙ ap packed (sym (if-no _ _ _ (ap (λ (n : ℕ). n <? at-args .r .expected) (sym (at-wide .ensures .0)) ∙ le-ltb _ _ (at-if1 .left)) ∙ if-no _ _ _ (sym (at-has .ensures) ∙ at-if2 .left) ∙ if-yes _ _ _ (ap (full (streamOf (at-args .r))) (sym (at-wide .ensures .0)) ∙ sym (at-is-full .ensures) ∙ c .before .if3 .taken)))
+    c .refused3 .ensures ∙ refusal-is (at-args .r) (at-pre) 12 ∙ ap packed (sym (if-no _ _ _ (ap (λ (n : ℕ). n <? at-args .r .expected) (sym (at-wide .ensures .0)) ∙ le-ltb _ _ (at-if1 .left)) ∙ if-no _ _ _ (sym (at-has .ensures) ∙ at-if2 .left) ∙ if-yes _ _ _ (ap (full (streamOf (at-args .r))) (sym (at-wide .ensures .0)) ∙ sym (at-is-full .ensures) ∙ c .before .if3 .taken)))
 
 accept-requires : tie.Need-accept-requires
 accept-requires c κs =

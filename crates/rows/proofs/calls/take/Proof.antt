@@ -7,7 +7,6 @@ use Rattle.octets.specs.Words.{if_then_else_}
 use Rattle.octets.proofs.Tests.{if-yes, if-no}
 use Rattle.rows.specs.Stream.{takeFrom, take as takes}
 use Rattle.rows.specs.Row.{heldIn, streamOf, packed}
-use Rattle.rows.proofs.Packing.{unmapped}
 use Rattle.rows.proofs.Rules.{kept-row}
 use Rattle.rows.proofs.Steps.{take-is, none-held}
 use Rattle.rows.proofs.calls.take.Statement.{statement}
@@ -33,7 +32,7 @@ returns-2 c =
     let at-pre = c .before .before .before .before .before .before .before .before .pre in
     let at-later = c .before .before .before .before .before .before .later in
     let at-is-due = c .before .before .is-due in
-    c .give .ensures ∙ ap packed (sym (take-is (at-args .r) (search unmapped) (at-pre) (search needs) (at-later .result) ∙ if-yes _ _ _ (sym (at-is-due .ensures) ∙ c .before .if2 .taken))) ∙ ap (λ (k : ℕ). packed (takeFrom (streamOf (at-args .r)) k (heldIn (at-args .r)))) (at-later .ensures)
+    c .give .ensures ∙ ap packed (sym (take-is (at-args .r) (at-pre) (search needs) (at-later .result) ∙ if-yes _ _ _ (sym (at-is-due .ensures) ∙ c .before .if2 .taken))) ∙ ap (λ (k : ℕ). packed (takeFrom (streamOf (at-args .r)) k (heldIn (at-args .r)))) (at-later .ensures)
 
 returns-3 : tie.Need-returns-3
 unfolding takes
@@ -42,7 +41,7 @@ returns-3 c =
     let at-pre = c .before .before .before .before .before .before .before .before .pre in
     let at-later = c .before .before .before .before .before .before .later in
     let at-is-due = c .before .before .is-due in
-    c .stay2 .ensures ∙ ap packed (sym (take-is (at-args .r) (search unmapped) (at-pre) (search needs) (at-later .result) ∙ if-no _ _ _ (sym (at-is-due .ensures) ∙ c .before .if2 .left))) ∙ ap (λ (k : ℕ). packed (takeFrom (streamOf (at-args .r)) k (heldIn (at-args .r)))) (at-later .ensures)
+    c .stay2 .ensures ∙ ap packed (sym (take-is (at-args .r) (at-pre) (search needs) (at-later .result) ∙ if-no _ _ _ (sym (at-is-due .ensures) ∙ c .before .if2 .left))) ∙ ap (λ (k : ℕ). packed (takeFrom (streamOf (at-args .r)) k (heldIn (at-args .r)))) (at-later .ensures)
 
 pub take-spec : {M : Type 1} → statement M
 take-spec =
