@@ -41,7 +41,7 @@ past l i h = drop-of-length-le l {i = i} h
 
 -- ---- what was found
 
-found-nothing : {A : Type 0} (i : ℕ) → Found.At i ≡ Found.Nothing → A
+pub found-nothing : {A : Type 0} (i : ℕ) → Found.At i ≡ Found.Nothing → A
 found-nothing i e = let z : _≡_ {A = ℕ} 0 1 = cc in absurd (omega arith)
 
 pub first-bound : (p : Slot → Bool) (n i : ℕ) (l : List Slot) → Found.At i ≡ first p n l → i < n + length l
