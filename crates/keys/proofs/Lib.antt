@@ -1,0 +1,4 @@
+-- Laws of keys.
+pub mod Names
+pub mod SameKey
+pub mod Unique

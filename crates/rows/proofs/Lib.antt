@@ -1,0 +1,10 @@
+-- Laws of one row, and its theorems.
+pub mod Packing
+pub mod Words
+pub mod Rules
+pub mod Steps
+pub mod Cases
+pub mod Keeps
+pub mod Refusals
+pub mod Expected
+pub mod Unique

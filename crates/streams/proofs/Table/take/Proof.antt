@@ -1,0 +1,50 @@
+-- What stands for the key decides.
+use mathlib.Core.Path.{sym, _∙_}
+use borrow.Author.Needs.{needs}
+use Rattle.streams.proofs.Lookups.{open-bound, take-by}
+use Rattle.streams.proofs.Table.take.Statement.{statement}
+use Rattle.streams.proofs.Table.take.Tie as tie
+
+take-at-requires : tie.Need-take-at-requires
+take-at-requires c κs =
+    let at-look-up = c .before .before .before .look-up in
+    open-bound _ _ _ (sym (c .before .l2 .given .1) ∙ at-look-up .ensures)
+
+returns : tie.Need-returns
+returns c =
+    let at-l = c .before .before .l in
+    let at-look-up = c .before .before .before .before .look-up in
+    let at-name = c .before .before .before .before .before .name in
+    let at-args = c .before .before .before .before .before .before .before .before .args in
+    c .refused-take .ensures ∙ take-by _ _ _ _ _ (sym (at-l .given .1) ∙ at-look-up .ensures) (at-name .ensures) (at-args .time)
+
+returns-2 : tie.Need-returns-2
+returns-2 c =
+    let at-l2 = c .before .before .l2 in
+    let at-look-up = c .before .before .before .before .look-up in
+    let at-name = c .before .before .before .before .before .name in
+    let at-args = c .before .before .before .before .before .before .before .before .args in
+    c .take-at .ensures ∙ take-by _ _ _ _ _ (sym (at-l2 .given .1) ∙ at-look-up .ensures) (at-name .ensures) (at-args .time)
+
+returns-3 : tie.Need-returns-3
+returns-3 c =
+    let at-look-up = c .before .before .before .look-up in
+    let at-name = c .before .before .before .before .name in
+    let at-args = c .before .before .before .before .before .before .before .args in
+    c .refused-take2 .ensures ∙ take-by _ _ _ _ _ (sym (c .before .enum-told .given .1) ∙ at-look-up .ensures) (at-name .ensures) (at-args .time)
+
+pub take-spec : {M : Type 1} → statement M
+take-spec =
+    tie.close
+    (tie.spec
+    (λ c κs. search needs)
+    (λ c κs. search needs)
+    (λ c. search needs)
+    (λ c κs. search needs)
+    (λ c. search needs)
+    take-at-requires
+    (λ c. search needs)
+    (λ c κs. search needs)
+    returns
+    returns-2
+    returns-3)

@@ -1,0 +1,15 @@
+-- The row's force, on row i.
+use borrow.Author.Needs.{needs}
+use Rattle.streams.proofs.Lookups.{on-row}
+use Rattle.streams.proofs.calls.force_at.Statement.{statement}
+use Rattle.streams.proofs.calls.force_at.Tie as tie
+
+returns : tie.Need-returns
+returns c =
+    let at-args = c .before .before .before .before .before .args in
+    let at-force = c .before .before .force in
+    on-row (at-args .t1) (at-args .i) _ _ _ _ (at-force .ensures) (c .put-row .ensures)
+
+pub force-at-spec : {M : Type 1} → statement M
+force-at-spec =
+    tie.close (tie.spec (λ c. search needs) (λ c. search needs) (λ c κs. search needs) (λ c κs. search needs) returns)
