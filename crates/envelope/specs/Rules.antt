@@ -4,8 +4,8 @@ use mathlib.Core.Bool.{Bool, true, false}
 use mathlib.Core.List.{List}
 use lib.ListN.{take}
 use Rattle.octets.specs.Words.{if_then_else_, _and_, _<?_, _≤?_, between}
-use Rattle.names.specs.Callsign.{callsign}
-use Rattle.names.specs.Destination.{destination}
+use Rattle.callsigns.specs.Callsign.{callsign}
+use Rattle.callsigns.specs.Destination.{destination}
 use Rattle.names.specs.Texts.{streamId}
 use Rattle.headers.specs.Rule.{headers}
 use Rattle.envelope.specs.declared.CallText.{CallText}

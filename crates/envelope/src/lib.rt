@@ -159,7 +159,7 @@ pub fn is_call(t: CallText) -> bool
         return false;
     }
     let bytes = t.bytes;
-    rules::callsign(&bytes[0..n])
+    callsigns::is_callsign(&bytes[0..n])
 }
 
 // Whether the fields are those of a valid message.

@@ -2,21 +2,8 @@
 use crate::AddressText;
 use crate::CallText;
 use crate::StreamText;
-use names::Callsign;
-use names::Destination;
 ghost use mathlib.Core.Path.{_≡_};
-ghost use Rattle.names.specs.Callsign.{callsign};
 ghost use Rattle.envelope.specs.Rules.{idIn, ttlIn, callIn, fragmentIn, streamIn, addressIn, given};
-
-pub(crate) fn callsign(s: &[u8]) -> bool
-    ensures { λ r. ⌜ r ≡ callsign (now (s .entry)) ⌝ }
-{
-    let c = names::read_callsign(s);
-    match c {
-        Callsign::Is(_) => true,
-        Callsign::Malformed => false,
-    }
-}
 
 pub(crate) fn id_rule(id: u32) -> bool
     ensures { λ r. ⌜ r ≡ idIn id ⌝ }
@@ -85,9 +72,5 @@ pub(crate) fn dst_rule(dst: AddressText) -> bool
         return false;
     }
     let bytes = dst.bytes;
-    let d = names::read_destination(&bytes[0..n]);
-    match d {
-        Destination::Is(_) => true,
-        Destination::Malformed => false,
-    }
+    callsigns::is_destination(&bytes[0..n])
 }

@@ -12,9 +12,9 @@ use Rattle.octets.specs.Words.{_and_, every, _≤?_, _=?_}
 use Rattle.octets.specs.Bytes.{front, placed}
 use Rattle.octets.proofs.Tests.{and-left, and-right, and-both, and-next, and-not-left, inside-high}
 use Rattle.octets.proofs.Lists.{placed-in}
-use Rattle.names.specs.Callsign.{callsign}
+use Rattle.callsigns.specs.Callsign.{callsign}
 use Rattle.names.specs.Texts.{streamId, ruled}
-use Rattle.names.proofs.Callsigns.{callsign-short}
+use Rattle.callsigns.proofs.Lengths.{callsign-short}
 use Rattle.keys.specs.declared.Key.{Key}
 use Rattle.keys.specs.Key.{originatorOf, streamIdOf, keyOf, noKey, zeros, isNoKey, holdsName, keepsKey}
 

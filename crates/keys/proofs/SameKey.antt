@@ -7,8 +7,8 @@ use Rattle.octets.specs.Words.{_and_}
 use Rattle.octets.specs.Bytes.{same}
 use Rattle.octets.proofs.Tests.{and-left, and-right, and-both, and-next, and-not-left, true-not-false}
 use Rattle.octets.proofs.Lists.{same-refl, same-sym, same-trans}
-use Rattle.names.specs.Callsign.{sameCall}
-use Rattle.names.proofs.SameCall.{sameCall-refl, sameCall-sym, sameCall-trans}
+use Rattle.callsigns.specs.Callsign.{sameCall}
+use Rattle.callsigns.proofs.SameCall.{sameCall-refl, sameCall-sym, sameCall-trans}
 use Rattle.keys.specs.declared.Key.{Key}
 use Rattle.keys.specs.Key.{originatorOf, streamIdOf, sameKey}
 

@@ -6,7 +6,7 @@ use lib.ListN.{length, take, drop, replicate}
 use Rattle.octets.specs.Words.{if_then_else_, _and_, no, every, _≤?_, _=?_}
 use Rattle.octets.specs.Bytes.{same, front}
 use Rattle.refusals.specs.Numbers.{noCallsign, streamIdMalformed}
-use Rattle.names.specs.Callsign.{callsign, sameCall}
+use Rattle.callsigns.specs.Callsign.{callsign, sameCall}
 use Rattle.names.specs.Texts.{streamId}
 use Rattle.keys.specs.declared.Key.{Key}
 use Rattle.keys.specs.declared.Named.{Named}

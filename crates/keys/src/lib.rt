@@ -61,7 +61,7 @@ pub fn same(a: Key, b: Key) -> bool
 {
     let n = a.originator_len;
     let m = b.originator_len;
-    if !names::same_call(parts::part(&a.originator, n), parts::part(&b.originator, m)) {
+    if !callsigns::same_call(parts::part(&a.originator, n), parts::part(&b.originator, m)) {
         return false;
     }
     let k = a.stream_id_len;

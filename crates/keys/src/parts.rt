@@ -2,11 +2,11 @@
 ghost use mathlib.Core.Path.{_≡_};
 ghost use Prim.Native.Nat.{_≤_};
 ghost use lib.ListN.{length, take, drop};
-ghost use Rattle.names.specs.Callsign.{callsign};
+ghost use Rattle.callsigns.specs.Callsign.{callsign};
 ghost use Rattle.names.specs.Texts.{streamId};
 ghost use Rattle.keys.specs.Key.{zeros, holdsName, keyOf};
 use crate::Key;
-use names::Callsign;
+use callsigns::Callsign;
 
 // The first n bytes, or all where there are fewer.
 pub fn part(a: &[u8], n: usize) -> &[u8]
@@ -36,7 +36,7 @@ pub fn zero_from(s: &[u8], n: usize) -> bool
 pub fn is_call(s: &[u8]) -> bool
     ensures { λ r. ⌜ r ≡ callsign (now (s .entry)) ⌝ }
 {
-    let c = names::read_callsign(s);
+    let c = callsigns::read_callsign(s);
     match c {
         Callsign::Is(_) => true,
         Callsign::Malformed => false,

@@ -1,9 +1,4 @@
-pub mod Choices
-pub mod Runs
-pub mod Callsigns
-pub mod SameCall
-pub mod Destinations
+-- Laws of stream ids, header texts and reserved keys.
 pub mod Lengths
 pub mod Reserved
-pub mod Examples
 pub mod Unique

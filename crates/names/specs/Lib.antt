@@ -1,7 +1,3 @@
--- Document 01, "Names and fields".
-pub mod Runs
-pub mod Callsign
-pub mod Suffix
-pub mod Destination
+-- Document 01, "Names and fields": reserved keys, stream ids, header texts.
 pub mod Reserved
 pub mod Texts

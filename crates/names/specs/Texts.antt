@@ -4,7 +4,7 @@ use mathlib.Core.Bool.{Bool, true, false}
 use mathlib.Core.List.{List}
 use lib.ListN.{length}
 use Rattle.octets.specs.Words.{_and_, _or_, no, _≤?_, _=?_, between, every}
-use Rattle.text.specs.Utf8.{utf8}
+use Rattle.utf8.specs.Utf8.{utf8}
 use Rattle.names.specs.Reserved.{reserved}
 
 -- no byte up to 0x20, no 0x7F, and no `=` but where it is allowed

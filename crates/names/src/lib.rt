@@ -1,35 +1,10 @@
-// Document 01, "Names and fields": callsign, destination, stream id, header key and value, the thirteen reserved keys.
+// Document 01, "Names and fields": stream id, header key and value, the thirteen reserved keys.
 ghost use mathlib.Core.Path.{_≡_};
-ghost use Rattle.names.specs.Callsign.{callsignOf, sameCall};
-ghost use Rattle.names.specs.Destination.{destinationOf};
 ghost use Rattle.names.specs.Reserved.{reserved};
 ghost use Rattle.names.specs.Texts.{streamId, headerKey, headerValue};
 
-mod parts;
 mod texts;
 mod words;
-
-// A callsign, taken apart: how many bytes its base has, and its SSID, 0 where none is written.
-pub struct Call {
-    pub base: usize,
-    pub ssid: u8,
-}
-
-pub enum Callsign {
-    Is(Call),
-    Malformed,
-}
-
-// A destination, taken apart: how many bytes its app has, and the callsign behind the `@`.
-pub struct Address {
-    pub app: usize,
-    pub call: Call,
-}
-
-pub enum Destination {
-    Is(Address),
-    Malformed,
-}
 
 // A key's spelling, padded: its first `len` bytes.
 pub struct Word {
@@ -92,55 +67,6 @@ pub const RESERVED: [Word; 13] = [
         len: 2,
     },
 ];
-
-// Reads a whole text as a callsign.
-pub fn read_callsign(s: &[u8]) -> Callsign
-    ensures { λ r. ⌜ r ≡ callsignOf (now (s .entry)) ⌝ }
-{
-    let base = parts::call_run(s);
-    if base < 1 {
-        return Callsign::Malformed;
-    }
-    if 9 < base {
-        return Callsign::Malformed;
-    }
-    let suffix = parts::read_suffix(&s[base..]);
-    match suffix {
-        parts::Suffix::Ssid(ssid) => Callsign::Is(Call { base, ssid }),
-        parts::Suffix::Bad => Callsign::Malformed,
-    }
-}
-
-// Whether two callsigns are equal.
-pub fn same_call(a: &[u8], b: &[u8]) -> bool
-    ensures { λ r. ⌜ r ≡ sameCall (now (a .entry)) (now (b .entry)) ⌝ }
-{
-    octets::equal(a, b)
-}
-
-// Reads a whole text as a destination.
-pub fn read_destination(s: &[u8]) -> Destination
-    ensures { λ r. ⌜ r ≡ destinationOf (now (s .entry)) ⌝ }
-{
-    let app = parts::app_run(s);
-    if app < 1 {
-        return Destination::Malformed;
-    }
-    if 32 < app {
-        return Destination::Malformed;
-    }
-    if app == s.len() {
-        return Destination::Malformed;
-    }
-    if s[app] != b'@' {
-        return Destination::Malformed;
-    }
-    let callsign = read_callsign(&s[app + 1..]);
-    match callsign {
-        Callsign::Is(call) => Destination::Is(Address { app, call }),
-        Callsign::Malformed => Destination::Malformed,
-    }
-}
 
 // Whether a text is a stream id.
 pub fn is_stream_id(s: &[u8]) -> bool

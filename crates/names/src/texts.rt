@@ -40,7 +40,7 @@ fn all_pass(s: &[u8], equals: bool) -> bool
 pub(crate) fn is_ruled(s: &[u8], equals: bool) -> bool
     ensures { λ r. ⌜ r ≡ ruled equals (now (s .entry)) ⌝ }
 {
-    if !text::well_formed(s) {
+    if !utf8::well_formed(s) {
         return false;
     }
     all_pass(s, equals)

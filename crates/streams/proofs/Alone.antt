@@ -12,7 +12,7 @@ use Rattle.octets.specs.Words.{if_then_else_, _and_, some, _=?_}
 use Rattle.octets.proofs.Tests.{if-yes, if-no, true-not-false}
 use Rattle.keys.specs.declared.Key.{Key}
 use Rattle.keys.specs.Key.{keyOf, namedOf}
-use Rattle.names.specs.Callsign.{callsign}
+use Rattle.callsigns.specs.Callsign.{callsign}
 use Rattle.names.specs.Texts.{streamId}
 use Rattle.rows.specs.declared.Held.{Held}
 use Rattle.rows.specs.declared.Row.{Row}

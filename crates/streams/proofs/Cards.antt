@@ -6,9 +6,9 @@ use mathlib.Core.Bool.{Bool, true, false}
 use mathlib.Core.List.{List, [], _∷_, _++_}
 use Rattle.octets.specs.Words.{if_then_else_, _and_, every, _=?_}
 use Rattle.octets.specs.Bytes.{same}
-use Rattle.text.specs.Utf8 as utf8
-use Rattle.names.specs.Runs as runs
-use Rattle.names.specs.Callsign.{alnum, suffix, baseLength, callsign, sameCall}
+use Rattle.utf8.specs.Utf8 as utf8
+use Rattle.callsigns.specs.Runs as runs
+use Rattle.callsigns.specs.Callsign.{alnum, suffix, baseLength, callsign, sameCall}
 use Rattle.names.specs.Texts.{textByte, ruled, streamId}
 use Rattle.keys.specs.Key.{sameKey, keyOf, isNoKey, keepsKey, namedOf}
 use Rattle.rows.specs.declared.Held.{Held}

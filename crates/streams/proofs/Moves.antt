@@ -16,7 +16,7 @@ use Rattle.keys.specs.declared.Key.{Key}
 use Rattle.keys.specs.declared.Named.{Named}
 use Rattle.keys.specs.Key.{keyOf, noKey, keepsKey, namedOf, sameKey}
 use Rattle.keys.proofs.Names.{key-keeps}
-use Rattle.names.specs.Callsign.{callsign}
+use Rattle.callsigns.specs.Callsign.{callsign}
 use Rattle.names.specs.Texts.{streamId}
 use Rattle.rows.specs.declared.Row.{Row}
 use Rattle.rows.specs.declared.Held.{Held}

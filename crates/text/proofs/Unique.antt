@@ -1,8 +1,6 @@
 -- Every public function leaves one outcome and asks nothing.
 use mathlib.Core.Path.{refl, sym, _∙_}
 use Rattle.octets.specs.Unique.{One, Free}
-use Rattle.text.proofs.well_formed.Kinds as well-formed-kinds
-use Rattle.text.proofs.well_formed.Reads as well-formed-reads
 use Rattle.text.proofs.read_number.Kinds as read-number-kinds
 use Rattle.text.proofs.read_number.Reads as read-number-reads
 use Rattle.text.proofs.number_size.Kinds as number-size-kinds
@@ -23,12 +21,6 @@ use Rattle.text.proofs.read_chk.Kinds as read-chk-kinds
 use Rattle.text.proofs.read_chk.Reads as read-chk-reads
 use Rattle.text.proofs.write_chk.Kinds as write-chk-kinds
 use Rattle.text.proofs.write_chk.Reads as write-chk-reads
-
-pub well-formed-one : One 1 well-formed-kinds.ps well-formed-kinds.r well-formed-reads.Post
-well-formed-one κs a x y v w p q = (p ∙ sym q, refl)
-
-pub well-formed-free : Free 1 well-formed-kinds.ps well-formed-reads.Pre
-well-formed-free κs a = tt
 
 pub read-number-one : One 1 read-number-kinds.ps read-number-kinds.r read-number-reads.Post
 read-number-one κs a x y v w p q = (p ∙ sym q, refl)

@@ -1,5 +1,4 @@
--- Text: well-formed UTF-8, decimals, hex.
-pub mod Utf8
+-- Text: decimals, hex.
 pub mod Digits
 pub mod Decimal
 pub mod Hex

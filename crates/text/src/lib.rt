@@ -1,14 +1,12 @@
-// Text: well-formed UTF-8 (RFC 3629), decimals, and the hex digits of an id and of `chk`.
+// Text: decimals, and the hex digits of an id and of `chk`.
 ghost use mathlib.Core.Path.{_≡_};
 ghost use lib.ListN.{length};
 ghost use Rattle.octets.specs.Bytes.{fits, placed};
-ghost use Rattle.text.specs.Utf8.{utf8};
 ghost use Rattle.text.specs.Decimal.{numberOf, decimal, signedOf, signedDecimal};
 ghost use Rattle.text.specs.Hex.{idOf, chkOf, hexDigits};
 
 mod decimal;
 mod digits;
-mod utf8;
 
 // An unsigned decimal, read.
 pub enum Number {
@@ -32,25 +30,6 @@ pub enum Id {
 pub enum Chk {
     Is(u16),
     Malformed,
-}
-
-// Whether the bytes are well-formed UTF-8: no overlong form, no surrogate, nothing above U+10FFFF.
-pub fn well_formed(s: &[u8]) -> bool
-    ensures { λ r. ⌜ r ≡ utf8 (now (s .entry)) ⌝ }
-{
-    let mut i = 0;
-    while i < s.len() {
-        if s[i] <= 0x7F {
-            i += 1;
-        } else {
-            let to = utf8::character(s, i);
-            if to == 0 {
-                return false;
-            }
-            i = to;
-        }
-    }
-    true
 }
 
 // A number from 0 to the limit.

@@ -5,7 +5,7 @@ use borrow.Author.Needs.{needs}
 use borrow.Author.Tests.{le-leb, lt-leb}
 use lib.ListN.{length}
 use Rattle.octets.proofs.Tests.{and-next, and-not-left}
-use Rattle.names.specs.Callsign.{callsign}
+use Rattle.callsigns.specs.Callsign.{callsign}
 use Rattle.headers.proofs.Cuts.{part-front}
 use Rattle.envelope.specs.Rules.{callIn}
 use Rattle.envelope.proofs.is_call.Statement.{statement}
@@ -18,8 +18,8 @@ returns : tie.Need-returns
 unfolding callIn
 returns c = sym (and-not-left _ _ (lt-leb _ 12 (c .if1 .taken)))
 
-part-callsign-end : tie.Need-part-callsign-end
-part-callsign-end c =
+part-is-callsign-end : tie.Need-part-is-callsign-end
+part-is-callsign-end c =
     let at-start = c .before .before .before in
     omega (arith, long at-start)
 
@@ -28,7 +28,7 @@ unfolding callIn
 returns-2 c =
     let at-args = c .before .before .before .before .before .args in
     let at-if1 = c .before .before .before .before .if1 in
-    c .callsign .ensures ∙ ap callsign (part-front (at-args .t .len) (at-args .t .bytes)) ∙ sym (and-next _ _ (le-leb _ 12 (at-if1 .left)))
+    c .is-callsign .ensures ∙ ap callsign (part-front (at-args .t .len) (at-args .t .bytes)) ∙ sym (and-next _ _ (le-leb _ 12 (at-if1 .left)))
 
 pub is-call-spec : {M : Type 1} → statement M
 is-call-spec =
@@ -37,6 +37,6 @@ is-call-spec =
     returns
     (λ c. search needs)
     (λ c. search needs)
-    part-callsign-end
+    part-is-callsign-end
     (λ c κs. search needs)
     returns-2)

@@ -3,7 +3,7 @@ use mathlib.Core.Path.{sym, _∙_}
 use borrow.Author.Needs.{needs}
 use borrow.Author.Tests.{not-true, not-false}
 use Rattle.octets.proofs.Tests.{if-yes, if-no, no-true, no-false}
-use Rattle.names.proofs.Callsigns.{callsign-short}
+use Rattle.callsigns.proofs.Lengths.{callsign-short}
 use Rattle.keys.specs.Key.{namedOf}
 use Rattle.keys.proofs.Names.{id-short}
 use Rattle.keys.proofs.name.Statement.{statement}

@@ -5,8 +5,7 @@ use borrow.Author.Needs.{needs}
 use borrow.Author.Tests.{le-leb, lt-leb}
 use lib.ListN.{length}
 use Rattle.octets.proofs.Tests.{and-next, and-not-left}
-use Rattle.names.specs.Destination.{destination}
-use Rattle.names.proofs.Destinations.{is-destination, no-destination}
+use Rattle.callsigns.specs.Destination.{destination}
 use Rattle.headers.proofs.Cuts.{part-front}
 use Rattle.envelope.specs.Rules.{addressIn}
 use Rattle.envelope.proofs.rules.dst_rule.Statement.{statement}
@@ -19,26 +18,17 @@ returns : tie.Need-returns
 unfolding addressIn
 returns c = sym (and-not-left _ _ (lt-leb _ 45 (c .if1 .taken)))
 
-part-read-destination-end : tie.Need-part-read-destination-end
-part-read-destination-end c =
+part-is-destination-end : tie.Need-part-is-destination-end
+part-is-destination-end c =
     let at-start = c .before .before .before in
     omega (arith, long at-start)
 
 returns-2 : tie.Need-returns-2
 unfolding addressIn
 returns-2 c =
-    let at-if1 = c .before .before .before .before .before .before .if1 in
-    let at-args = c .before .before .before .before .before .before .before .args in
-    let at-read-destination = c .before .before .read-destination in
-    sym (and-next _ _ (le-leb _ 45 (at-if1 .left)) ∙ ap destination (sym (part-front (at-args .dst .len) (at-args .dst .bytes))) ∙ is-destination _ _ (sym (at-read-destination .ensures) ∙ c .enum-told .given .1))
-
-returns-3 : tie.Need-returns-3
-unfolding addressIn
-returns-3 c =
-    let at-if1 = c .before .before .before .before .before .before .if1 in
-    let at-args = c .before .before .before .before .before .before .before .args in
-    let at-read-destination = c .before .before .read-destination in
-    sym (and-next _ _ (le-leb _ 45 (at-if1 .left)) ∙ ap destination (sym (part-front (at-args .dst .len) (at-args .dst .bytes))) ∙ no-destination _ (sym (at-read-destination .ensures) ∙ c .enum-told2 .given .1))
+    let at-args = c .before .before .before .before .before .args in
+    let at-if1 = c .before .before .before .before .if1 in
+    c .is-destination .ensures ∙ ap destination (part-front (at-args .dst .len) (at-args .dst .bytes)) ∙ sym (and-next _ _ (le-leb _ 45 (at-if1 .left)))
 
 pub dst-rule-spec : {M : Type 1} → statement M
 dst-rule-spec =
@@ -47,9 +37,6 @@ dst-rule-spec =
     returns
     (λ c. search needs)
     (λ c. search needs)
-    part-read-destination-end
+    part-is-destination-end
     (λ c κs. search needs)
-    (λ c. search needs)
-    (λ c. search needs)
-    returns-2
-    returns-3)
+    returns-2)

@@ -1,6 +1,6 @@
 -- Where the flag is set, a callsign.
 use borrow.Author.Needs.{needs}
-use Rattle.names.specs.Callsign.{callsign}
+use Rattle.callsigns.specs.Callsign.{callsign}
 use Rattle.envelope.specs.Rules.{callIn}
 use Rattle.envelope.proofs.Given.{absent, present}
 use Rattle.envelope.proofs.rules.src_rule.Statement.{statement}

@@ -2,7 +2,7 @@
 use mathlib.Core.Path.{sym, ap, _∙_}
 use borrow.Author.Needs.{needs}
 use borrow.Author.Tests.{not-true, not-false}
-use Rattle.names.specs.Callsign.{callsign}
+use Rattle.callsigns.specs.Callsign.{callsign}
 use Rattle.keys.proofs.Names.{holds-other, holds-long, holds-bad, holds-good}
 use Rattle.keys.proofs.parts.call_in.Statement.{statement}
 use Rattle.keys.proofs.parts.call_in.Tie as tie

@@ -1,7 +1,7 @@
 -- The reader of callsigns takes the text.
 use mathlib.Core.Path.{sym, _∙_}
 use borrow.Author.Needs.{needs}
-use Rattle.names.proofs.Callsigns.{is-callsign, no-callsign}
+use Rattle.callsigns.proofs.Callsigns.{is-callsign, no-callsign}
 use Rattle.keys.proofs.parts.is_call.Statement.{statement}
 use Rattle.keys.proofs.parts.is_call.Tie as tie
 

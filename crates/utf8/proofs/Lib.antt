@@ -1,0 +1,4 @@
+-- Laws of UTF-8, and what every public function leaves open: nothing.
+pub mod Runs
+pub mod Unique
+pub mod Examples

@@ -1,0 +1,3 @@
+-- Well-formed UTF-8.
+pub mod Utf8
+pub mod Steps
