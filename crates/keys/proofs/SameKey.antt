@@ -3,7 +3,6 @@ use Prim.Native.Nat.{ℕ}
 use mathlib.Core.Path.{_≡_, refl, sym}
 use mathlib.Core.Bool.{Bool, true, false}
 use mathlib.Core.List.{List}
-use Rattle.octets.specs.Words.{_and_}
 use Rattle.octets.specs.Bytes.{same}
 use Rattle.octets.proofs.Tests.{and-left, and-right, and-both, and-next, and-not-left, true-not-false}
 use Rattle.octets.proofs.Lists.{same-refl, same-sym, same-trans}

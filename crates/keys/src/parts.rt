@@ -9,7 +9,7 @@ use crate::Key;
 use callsigns::Callsign;
 
 // The first n bytes, or all where there are fewer.
-pub fn part(a: &[u8], n: usize) -> &[u8]
+pub(crate) fn part(a: &[u8], n: usize) -> &[u8]
     ensures { λ r. ⌜ now r ≡ take n (now (a .entry)) ⌝ }
 {
     if a.len() < n {
@@ -19,7 +19,7 @@ pub fn part(a: &[u8], n: usize) -> &[u8]
 }
 
 // Whether the bytes from n on are all zero.
-pub fn zero_from(s: &[u8], n: usize) -> bool
+pub(crate) fn zero_from(s: &[u8], n: usize) -> bool
     ensures { λ r. ⌜ r ≡ zeros (drop n (now (s .entry))) ⌝ }
 {
     let mut i = n;
@@ -33,7 +33,7 @@ pub fn zero_from(s: &[u8], n: usize) -> bool
 }
 
 // Whether a text is a callsign.
-pub fn is_call(s: &[u8]) -> bool
+pub(crate) fn is_call(s: &[u8]) -> bool
     ensures { λ r. ⌜ r ≡ callsign (now (s .entry)) ⌝ }
 {
     let c = callsigns::read_callsign(s);
@@ -44,7 +44,7 @@ pub fn is_call(s: &[u8]) -> bool
 }
 
 // Whether an array of 12 bytes has a callsign of n bytes, and zeros behind it.
-pub fn call_in(a: &[u8], n: usize) -> bool
+pub(crate) fn call_in(a: &[u8], n: usize) -> bool
     ensures { λ r. ⌜ r ≡ holdsName 12 callsign n (now (a .entry)) ⌝ }
 {
     if a.len() != 12 {
@@ -60,7 +60,7 @@ pub fn call_in(a: &[u8], n: usize) -> bool
 }
 
 // Whether an array of 255 bytes has a stream id of n bytes, and zeros behind it.
-pub fn id_in(a: &[u8], n: usize) -> bool
+pub(crate) fn id_in(a: &[u8], n: usize) -> bool
     ensures { λ r. ⌜ r ≡ holdsName 255 streamId n (now (a .entry)) ⌝ }
 {
     if a.len() != 255 {
@@ -76,7 +76,7 @@ pub fn id_in(a: &[u8], n: usize) -> bool
 }
 
 // The key of two names that fit.
-pub fn key_of(originator: &[u8], stream_id: &[u8]) -> Key
+pub(crate) fn key_of(originator: &[u8], stream_id: &[u8]) -> Key
     requires { ⌜ (length (now originator) ≤ 12) × (length (now «stream_id») ≤ 255) ⌝ }
     ensures { λ r. ⌜ r ≡ keyOf (now (originator .entry)) (now («stream_id» .entry)) ⌝ }
 {

@@ -1,12 +1,12 @@
 -- THEOREM: the expected number always finds its place: on a row that keeps the rules an offer of exactly the expected number is accepted,
 -- unless that number is held already; and the row then holds it in one of its sixteen places.
-use mathlib.Core.Path.{_≡_, refl, sym, ap, _∙_}
+use mathlib.Core.Path.{_≡_, refl}
 use Prim.Native.Nat.{ℕ, _≤_, _<_}
 use native.Mathlib.Omega.{arith}
 use mathlib.Core.Bool.{true, false}
 use lib.ListN.{length}
 use borrow.Author.Tests.{le-ltb}
-use Rattle.octets.specs.Words.{if_then_else_, _<?_}
+use Rattle.octets.specs.Words.{_<?_}
 use Rattle.octets.proofs.Tests.{and-not-left}
 use Rattle.rows.specs.declared.Held.{Held}
 use Rattle.rows.specs.declared.Row.{Row}

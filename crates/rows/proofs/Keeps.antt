@@ -5,16 +5,16 @@ use native.Mathlib.Omega.{arith}
 use mathlib.Core.Bool.{Bool, true, false}
 use mathlib.Core.List.{List, [], _∷_}
 use lib.ListN.{length}
-use borrow.Author.Tests.{le-leb, leb-true, leb-false, ltb-true, ltb-false, eqb-false}
+use borrow.Author.Tests.{le-leb, leb-false, ltb-true, ltb-false, eqb-false}
 use Rattle.octets.specs.Words.{if_then_else_, _and_, _or_, every, _<?_, _≤?_, _=?_}
 use Rattle.octets.proofs.Tests.{and-left, and-right, and-both, and-next, true-not-false}
 use Rattle.rows.specs.declared.Held.{Held}
 use Rattle.rows.specs.declared.Row.{Row}
 use Rattle.rows.specs.Answer.{Outcome}
 use Rattle.rows.specs.Stream.{Stream, fresh, word, words, ascending, above, holds, insert, gapOpen, keeps, accept, offer, stay, give, take, force}
-use Rattle.rows.specs.Row.{streamOf, rowOf, keepsRow, packed, checked, offerOf, takeOf, forceOf}
+use Rattle.rows.specs.Row.{streamOf, rowOf, keepsRow, checked, offerOf, takeOf, forceOf}
 use Rattle.rows.specs.Steps.{full, startAfter}
-use Rattle.rows.proofs.Rules.{Kept, kept, keep, KeptRow, kept-row, keeps-row, held-most}
+use Rattle.rows.proofs.Rules.{Kept, kept, keep, kept-row, keeps-row, held-most}
 use Rattle.rows.proofs.Cases.{by-offer, by-take, by-force}
 
 -- ---- one more message

@@ -5,10 +5,10 @@ use native.Mathlib.Omega.{arith}
 use native.Mathlib.Numerals.{add-one}
 use mathlib.Core.Bool.{Bool, true, false}
 use mathlib.Core.List.{List, [], _∷_, _++_, map, append-assoc, append-nil}
-use lib.ListN.{length, getD, set, take, drop, length-map, length-append, length-drop, length-take, take-append-drop, drop-of-length-le, replicate, replicate-append-replicate, length-replicate}
+use lib.ListN.{length, getD, set, take, drop, length-map, length-append, length-drop, take-append-drop, drop-of-length-le, replicate, replicate-append-replicate, length-replicate}
 use lib.Seq.{take-append-le, drop-append-le, drop-drop, take-suc-set, drop-set-lt, drop-cons, append-snoc, length-take-le, take-all, take-at, set-split, getD-take}
-use borrow.Author.Tests.{eq-eqb, eqb-true}
-use Rattle.octets.specs.Words.{if_then_else_, _and_, every, _<?_, _=?_}
+use borrow.Author.Tests.{eqb-true}
+use Rattle.octets.specs.Words.{if_then_else_, every, _<?_, _=?_}
 use Rattle.octets.proofs.Tests.{and-left, and-right, and-both}
 use Rattle.octets.proofs.Lists.{drop-next}
 use Rattle.rows.specs.declared.Held.{Held}

@@ -1,11 +1,10 @@
 -- THEOREM: a refusal hands the row back as it came, its clock included.
 use mathlib.Core.Path.{_≡_, refl, sym, ap, _∙_}
 use Prim.Native.Nat.{ℕ}
-use native.Mathlib.Omega.{arith}
 use mathlib.Core.Bool.{Bool, true, false}
 use Rattle.rows.specs.declared.Held.{Held}
 use Rattle.rows.specs.declared.Row.{Row}
-use Rattle.rows.specs.Answer.{Answer, refused, Outcome}
+use Rattle.rows.specs.Answer.{refused, Outcome}
 use Rattle.rows.specs.Stream.{Stream, offer, take, force}
 use Rattle.rows.specs.Row.{streamOf, rowOf, keepsRow, checked, offerOf, takeOf, forceOf}
 use Rattle.rows.proofs.Rules.{packs}

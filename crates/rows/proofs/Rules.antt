@@ -3,16 +3,16 @@ use mathlib.Core.Path.{_≡_, refl, sym, ap, _∙_}
 use Prim.Native.Nat.{ℕ, suc, _+_, _-_, _≤_, _<_}
 use native.Mathlib.Omega.{arith}
 use mathlib.Core.Bool.{Bool, true, false}
-use mathlib.Core.List.{List, [], _∷_, _++_}
-use lib.ListN.{length, take, drop, replicate, length-replicate}
+use mathlib.Core.List.{List, [], _∷_}
+use lib.ListN.{length, drop, replicate}
 use lib.Seq.{take-append-seam, drop-append-seam}
 use borrow.Author.Tests.{eq-eqb, le-leb, leb-true, leb-false, lt-ltb, ltb-true, ltb-false, eqb-true, eqb-false}
-use Rattle.octets.specs.Words.{if_then_else_, _and_, _or_, every, between, _<?_, _≤?_, _=?_}
+use Rattle.octets.specs.Words.{_and_, _or_, every, between, _<?_, _≤?_, _=?_}
 use Rattle.octets.proofs.Tests.{and-left, and-right, and-both, and-next, inside, inside-low, inside-high, true-not-false}
 use Rattle.rows.specs.declared.Held.{Held}
 use Rattle.rows.specs.declared.Row.{Row}
-use Rattle.rows.specs.Stream.{Stream, word, words, ascending, above, holds, gapOpen, ordered, timed, small, keeps}
-use Rattle.rows.specs.Row.{blank, isBlank, heldIn, streamOf, places, rowOf, keepsRow, noRow, isNoRow}
+use Rattle.rows.specs.Stream.{Stream, word, words, ascending, above, holds, gapOpen, ordered, timed, keeps}
+use Rattle.rows.specs.Row.{blank, isBlank, streamOf, places, rowOf, keepsRow, noRow, isNoRow}
 use Rattle.rows.proofs.Packing.{Placed, counted, placed, blanks, all-blank, length-places}
 
 -- ---- a stream that keeps the rules

@@ -1,6 +1,6 @@
 -- What the code makes of a row that keeps its rules is what document 01 says of the stream, packed. Over plain values.
-use mathlib.Core.Path.{_≡_, refl, sym, ap, _∙_, subst}
-use Prim.Native.Nat.{ℕ, _+_, _-_, _≤_, _<_}
+use mathlib.Core.Path.{_≡_, sym, ap, _∙_}
+use Prim.Native.Nat.{ℕ, _+_, _-_, _<_}
 use native.Mathlib.Omega.{arith}
 use mathlib.Core.Bool.{Bool, true, false}
 use mathlib.Core.List.{List, [], _∷_, _++_}
@@ -9,8 +9,8 @@ use Rattle.octets.specs.Words.{if_then_else_}
 use Rattle.rows.specs.declared.Held.{Held}
 use Rattle.rows.specs.declared.Row.{Row}
 use Rattle.rows.specs.Answer.{Answer, given, nothing, accepted, refused, Outcome, refuse}
-use Rattle.rows.specs.Stream.{Stream, gapOpen, insert, accept, stay, give, due, takeFrom, forceFrom}
-use Rattle.rows.specs.Row.{blank, heldIn, streamOf, places, rowOf, keepsRow, packed}
+use Rattle.rows.specs.Stream.{gapOpen, insert, accept, stay, give, due, takeFrom, forceFrom}
+use Rattle.rows.specs.Row.{blank, heldIn, streamOf, places, keepsRow, packed}
 use Rattle.rows.specs.Steps.{placeOf, startAfter}
 use Rattle.rows.proofs.Packing.{Placed, counted, placed, lowest-of, rest-taken, rest-placed, rest-counted, more-placed, more-taken, length-insert}
 use Rattle.rows.proofs.Rules.{placed-in, row-is, packs}

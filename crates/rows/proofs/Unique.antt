@@ -5,7 +5,7 @@ use Rattle.rows.specs.declared.Accepting.{Accepting}
 use Rattle.rows.specs.declared.Giving.{Giving}
 use Rattle.rows.specs.declared.Offered.{Offered}
 use Rattle.rows.specs.declared.Taken.{Taken}
-use Rattle.rows.specs.Answer.{Answer, Outcome, accepting, giving, offeredSays, takenSays}
+use Rattle.rows.specs.Answer.{accepting, giving, offeredSays, takenSays}
 use Rattle.rows.proofs.Row.new.Kinds as new-kinds
 use Rattle.rows.proofs.Row.new.Reads as new-reads
 use Rattle.rows.proofs.Row.none.Kinds as none-kinds

@@ -5,7 +5,7 @@ use mathlib.Core.List.{List, [], _∷_}
 use Rattle.octets.specs.Words.{if_then_else_, _and_, _or_, some, every, between, _<?_, _≤?_, _=?_}
 use Rattle.refusals.specs.Numbers.{stale, alreadyHeld, rowFull}
 use Rattle.rows.specs.declared.Held.{Held}
-use Rattle.rows.specs.Answer.{Answer, accepted, given, nothing, refused, Outcome, refuse}
+use Rattle.rows.specs.Answer.{accepted, given, nothing, Outcome, refuse}
 
 -- a row: the expected number, the clock, the gap start, and the held messages in ascending number
 pub record Stream : Type 0 where

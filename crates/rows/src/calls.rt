@@ -43,7 +43,7 @@ fn in_order(r: Row) -> bool
 }
 
 // Whether the row that the struct stands for keeps its rules.
-pub fn keeps(r: Row) -> bool
+pub(crate) fn keeps(r: Row) -> bool
     requires { ⌜ r .count ≤ 16 ⌝ }
     ensures { λ b. ⌜ b ≡ keeps (streamOf r) ⌝ }
 {
@@ -62,7 +62,7 @@ pub fn keeps(r: Row) -> bool
     r.gap_start == 0
 }
 
-pub fn refused(n: u8, r: Row) -> Offered
+pub(crate) fn refused(n: u8, r: Row) -> Offered
     ensures { λ o. ⌜ offeredSays o ≡ refuse n r ⌝ }
 {
     Offered {
@@ -128,7 +128,7 @@ fn accept(r: Row, m: Held, clock: u32) -> Offered
     }
 }
 
-pub fn offer(r: Row, m: Held, time: u32) -> Offered
+pub(crate) fn offer(r: Row, m: Held, time: u32) -> Offered
     requires { ⌜ keepsRow r ≡ true ⌝ }
     ensures { λ o. ⌜ offeredSays o ≡ packed (offer (streamOf r) m time) ⌝ }
 {
@@ -198,7 +198,7 @@ fn is_due(r: Row, lowest: Held, clock: u32) -> bool
     lowest.timeout <= clock - r.gap_start
 }
 
-pub fn take(r: Row, time: u32) -> Taken
+pub(crate) fn take(r: Row, time: u32) -> Taken
     requires { ⌜ keepsRow r ≡ true ⌝ }
     ensures { λ o. ⌜ takenSays o ≡ packed (take (streamOf r) time) ⌝ }
 {
@@ -214,7 +214,7 @@ pub fn take(r: Row, time: u32) -> Taken
     stay(r, clock)
 }
 
-pub fn force(r: Row, time: u32) -> Taken
+pub(crate) fn force(r: Row, time: u32) -> Taken
     requires { ⌜ keepsRow r ≡ true ⌝ }
     ensures { λ o. ⌜ takenSays o ≡ packed (force (streamOf r) time) ⌝ }
 {

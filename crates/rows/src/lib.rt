@@ -1,7 +1,6 @@
 // Document 01, "Streams": one row, its rules and its three calls.
 // The row goes in by value and comes back in the answer; a refusal hands it back as it came.
 ghost use mathlib.Core.Path.{_≡_};
-ghost use mathlib.Core.Bool.{true};
 ghost use Rattle.rows.specs.Answer.{offeredSays, takenSays};
 ghost use Rattle.rows.specs.Stream.{fresh};
 ghost use Rattle.rows.specs.Row.{rowOf, noRow, keepsRow, isNoRow, offerOf, takeOf, forceOf};

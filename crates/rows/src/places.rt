@@ -10,7 +10,7 @@ ghost use Rattle.rows.specs.Steps.{placeOf};
 use crate::Held;
 
 // An empty place.
-pub fn blank() -> Held
+pub(crate) fn blank() -> Held
     ensures { λ r. ⌜ r ≡ blank ⌝ }
 {
     Held {
@@ -21,7 +21,7 @@ pub fn blank() -> Held
 }
 
 // A message's number, as wide as an expected number.
-pub fn wide(x: u32) -> u64
+pub(crate) fn wide(x: u32) -> u64
     ensures { λ r. ⌜ (r ≡ x) × (r < 4294967296) ⌝ }
 {
     x as u64
@@ -40,7 +40,7 @@ fn is_blank(m: Held) -> bool
 }
 
 // Whether the places from n on are all empty.
-pub fn blank_from(held: [Held; 16], n: usize) -> bool
+pub(crate) fn blank_from(held: [Held; 16], n: usize) -> bool
     ensures { λ r. ⌜ r ≡ every isBlank (drop n held) ⌝ }
 {
     let mut i = n;
@@ -55,7 +55,7 @@ pub fn blank_from(held: [Held; 16], n: usize) -> bool
 }
 
 // Whether the first n messages ascend strictly, none below `low`.
-pub fn ascends(held: [Held; 16], n: usize, low: u64) -> bool
+pub(crate) fn ascends(held: [Held; 16], n: usize, low: u64) -> bool
     requires { ⌜ n ≤ 16 ⌝ }
     ensures { λ r. ⌜ r ≡ ascending low (take n held) ⌝ }
 {
@@ -73,7 +73,7 @@ pub fn ascends(held: [Held; 16], n: usize, low: u64) -> bool
 }
 
 // How many of the first n messages stand above `expected`.
-pub fn count_above(held: [Held; 16], n: usize, expected: u64) -> usize
+pub(crate) fn count_above(held: [Held; 16], n: usize, expected: u64) -> usize
     requires { ⌜ n ≤ 16 ⌝ }
     ensures { λ r. ⌜ r ≡ above expected (take n held) ⌝ }
 {
@@ -90,7 +90,7 @@ pub fn count_above(held: [Held; 16], n: usize, expected: u64) -> usize
 }
 
 // Whether one of the first n messages has the number.
-pub fn has(held: [Held; 16], n: usize, number: u32) -> bool
+pub(crate) fn has(held: [Held; 16], n: usize, number: u32) -> bool
     requires { ⌜ n ≤ 16 ⌝ }
     ensures { λ r. ⌜ r ≡ holds number (take n held) ⌝ }
 {
@@ -106,7 +106,7 @@ pub fn has(held: [Held; 16], n: usize, number: u32) -> bool
 }
 
 // Whether the gap is open: something is held, and the lowest is above `expected`.
-pub fn gap_open(held: [Held; 16], n: usize, expected: u64) -> bool
+pub(crate) fn gap_open(held: [Held; 16], n: usize, expected: u64) -> bool
     ensures { λ r. ⌜ r ≡ gapOpen expected (take n held) ⌝ }
 {
     if n == 0 {
@@ -116,7 +116,7 @@ pub fn gap_open(held: [Held; 16], n: usize, expected: u64) -> bool
 }
 
 // The place of the first of the n messages whose number is above `number`, or n.
-pub fn place(held: [Held; 16], n: usize, number: u32) -> usize
+pub(crate) fn place(held: [Held; 16], n: usize, number: u32) -> usize
     requires { ⌜ n ≤ 16 ⌝ }
     ensures { λ r. ⌜ r ≡ placeOf number (take n held) ⌝ }
 {
@@ -132,7 +132,7 @@ pub fn place(held: [Held; 16], n: usize, number: u32) -> usize
 }
 
 // The places with x at p: those from p on move one place up, and the last falls off.
-pub fn with_at(held: [Held; 16], p: usize, x: Held) -> [Held; 16]
+pub(crate) fn with_at(held: [Held; 16], p: usize, x: Held) -> [Held; 16]
     requires { ⌜ p ≤ 16 ⌝ }
     ensures { λ r. ⌜ r ≡ take 16 (take p held ++ (x ∷ drop p held)) ⌝ }
 {
@@ -149,7 +149,7 @@ pub fn with_at(held: [Held; 16], p: usize, x: Held) -> [Held; 16]
 }
 
 // The places without the first: each message moves one place down, and the last place is empty.
-pub fn without_first(held: [Held; 16]) -> [Held; 16]
+pub(crate) fn without_first(held: [Held; 16]) -> [Held; 16]
     ensures { λ r. ⌜ r ≡ drop 1 held ++ (blank ∷ []) ⌝ }
 {
     let mut h = held;

@@ -1,34 +1,31 @@
 -- THEOREM: once a stream is open, a call on it does what the row by itself does: its answer, and the row after it, depend on that row alone.
 use mathlib.Core.Path.{_≡_, refl, sym, ap, _∙_}
-use Prim.Native.Nat.{ℕ, _≤_}
+use Prim.Native.Nat.{ℕ}
 use native.Mathlib.Omega.{arith}
 use mathlib.Core.Bool.{Bool, true, false}
 use mathlib.Core.List.{List}
-use mathlib.Core.Option.{Option, none, some as just}
+use mathlib.Core.Option.{none, some as just}
 use mathlib.Core.Logic.{_⊎_, inl, inr}
 use borrow.Author.Tests.{eqb-true, eqb-false}
-use lib.ListN.{length}
-use Rattle.octets.specs.Words.{if_then_else_, _and_, some, _=?_}
-use Rattle.octets.proofs.Tests.{if-yes, if-no, true-not-false}
+use Rattle.octets.specs.Words.{if_then_else_, _=?_}
 use Rattle.keys.specs.declared.Key.{Key}
 use Rattle.keys.specs.Key.{keyOf, namedOf}
 use Rattle.callsigns.specs.Callsign.{callsign}
 use Rattle.names.specs.Texts.{streamId}
 use Rattle.rows.specs.declared.Held.{Held}
 use Rattle.rows.specs.declared.Row.{Row}
-use Rattle.rows.specs.Answer.{Answer, accepted, Outcome, refuse}
+use Rattle.rows.specs.Answer.{accepted, Outcome, refuse}
 use Rattle.rows.specs.Stream.{holds}
 use Rattle.rows.specs.Row.{heldIn, keepsRow, offerOf, takeOf, forceOf}
 use Rattle.rows.proofs.Expected.{expected-accepted-row}
 use Rattle.refusals.specs.Numbers.{stillHolding}
-use Rattle.streams.specs.declared.Slot.{Slot}
 use Rattle.streams.specs.declared.Table.{Table}
 use Rattle.streams.specs.declared.Found.{Found}
 use Rattle.streams.specs.declared.Lookup.{Lookup}
 use Rattle.streams.specs.Table.{freeSlot, hasKey, keepsTable, first, slotAt, withSlot}
-use Rattle.streams.specs.Calls.{place, lookUp, onRow, offerBy, offer, takeBy, take, forceBy, force, closeBy, close}
+use Rattle.streams.specs.Calls.{place, lookUp, onRow, offer, take, force, close}
 use Rattle.streams.specs.Meaning.{rowFor}
-use Rattle.streams.proofs.Lookups.{kept, by-lookup}
+use Rattle.streams.proofs.Lookups.{kept}
 use Rattle.streams.proofs.Places.{Place, place-at, first-place, first-none, row-place, row-none, row-set, row-gone, same-key, free-key}
 use Rattle.streams.proofs.Moves.{row-keeps}
 
@@ -37,15 +34,16 @@ pub record Does (k : Key) (x : Outcome Row) (o : Outcome Table) : Type 0 where
   pub answer : o .answer ≡ x .answer
   pub row : rowFor k (o .after) ≡ just (x .after)
 
-module _ (t : Table) (o s : List ℕ) (e : keepsTable t ≡ true) (c : callsign o ≡ true) (d : streamId s ≡ true) (r : Row) (h : rowFor (keyOf o s) t ≡ just r) where
-  named-is : namedOf o s ≡ record { refusal = 0; key = keyOf o s }
-  unfolding namedOf
-  named-is = rw (c, d)
+-- the key of two valid names
+pub named-is : (o s : List ℕ) → callsign o ≡ true → streamId s ≡ true → namedOf o s ≡ record { refusal = 0; key = keyOf o s }
+unfolding namedOf
+named-is o s c d = rw (c, d)
 
+module _ (t : Table) (o s : List ℕ) (e : keepsTable t ≡ true) (c : callsign o ≡ true) (d : streamId s ≡ true) (r : Row) (h : rowFor (keyOf o s) t ≡ just r) where
   -- its row is found, and is r
   pub known : (i : ℕ) × (lookUp t (namedOf o s) ≡ Lookup.Open i) × Place (hasKey (keyOf o s)) (t .slots) i × (slotAt t i .row ≡ r)
   unfolding lookUp
-  known = rw (named-is, e) (go (first (hasKey (keyOf o s)) 0 (t .slots)) refl)
+  known = rw (named-is o s c d, e) (go (first (hasKey (keyOf o s)) 0 (t .slots)) refl)
     where
       go : (f : Found) → f ≡ first (hasKey (keyOf o s)) 0 (t .slots) → (i : ℕ) × (place f ≡ Lookup.Open i) × Place (hasKey (keyOf o s)) (t .slots) i × (slotAt t i .row ≡ r)
       go (Found.At i) q = let p = first-place (hasKey (keyOf o s)) i (t .slots) q in (i, refl, p, let z = row-place (keyOf o s) p in cc)

@@ -3,20 +3,19 @@
 use mathlib.Core.Path.{_≡_, refl}
 use Prim.Native.Nat.{ℕ, zero, suc, _+_}
 use mathlib.Core.Bool.{Bool, true, false}
-use mathlib.Core.List.{List, [], _∷_, _++_}
-use Rattle.octets.specs.Words.{if_then_else_, _and_, every, _=?_}
+use mathlib.Core.List.{List, [], _∷_}
+use Rattle.octets.specs.Words.{_and_, every, _=?_}
 use Rattle.octets.specs.Bytes.{same}
 use Rattle.utf8.specs.Utf8 as utf8
 use Rattle.callsigns.specs.Runs as runs
 use Rattle.callsigns.specs.Callsign.{alnum, suffix, baseLength, callsign, sameCall}
 use Rattle.names.specs.Texts.{textByte, ruled, streamId}
 use Rattle.keys.specs.Key.{sameKey, keyOf, isNoKey, keepsKey, namedOf}
-use Rattle.rows.specs.declared.Held.{Held}
 use Rattle.rows.specs.Row.{keepsRow, isNoRow}
 use Rattle.rows.specs.Stream as stream
 use Rattle.rows.specs.Answer.{Answer, accepted, given, nothing, refused, Outcome}
 use Rattle.streams.specs.declared.Table.{Table}
-use Rattle.streams.specs.Answer.{Counted, counted, uncounted, Sight}
+use Rattle.streams.specs.Answer.{Counted, counted, uncounted}
 use Rattle.streams.specs.Table.{empty, keepsSlot, hasKey, keepsTable}
 use Rattle.streams.specs.Calls as calls
 

@@ -1,15 +1,16 @@
 -- THEOREM: every call returns a table that keeps the rules, if it is handed one. (The numbers are of 32 bits, as the code's types have them.)
-use mathlib.Core.Path.{_≡_, refl, sym, ap, _∙_}
+use mathlib.Core.Path.{_≡_, refl, sym, _∙_}
 use Prim.Native.Nat.{ℕ}
-use mathlib.Core.Bool.{Bool, true, false}
+use mathlib.Core.Bool.{true, false}
 use mathlib.Core.List.{List}
-use lib.ListN.{length, set, length-set}
+use lib.ListN.{set, length-set}
 use borrow.Author.Tests.{eq-eqb}
-use Rattle.octets.specs.Words.{if_then_else_, every}
-use Rattle.octets.proofs.Tests.{if-yes, and-left, and-both, true-not-false}
+use Rattle.octets.proofs.Tests.{if-yes, if-no, and-left, and-right, and-both, true-not-false}
 use Rattle.octets.proofs.Lists.{every-at}
 use Rattle.keys.specs.declared.Key.{Key}
 use Rattle.keys.specs.Key.{keepsKey, isNoKey}
+use Rattle.keys.proofs.Names.{no-key}
+use Rattle.rows.proofs.Rules.{no-row}
 use Rattle.rows.specs.declared.Held.{Held}
 use Rattle.rows.specs.declared.Row.{Row}
 use Rattle.rows.specs.Answer.{Outcome}
@@ -17,10 +18,10 @@ use Rattle.rows.specs.Stream.{word, words}
 use Rattle.rows.specs.Row.{keepsRow, isNoRow}
 use Rattle.streams.specs.declared.Slot.{Slot}
 use Rattle.streams.specs.declared.Table.{Table}
-use Rattle.streams.specs.Table.{freeSlot, keepsSlot, hasKey, distinct, keepsTable, slotAt, withSlot, pastSlot, empty}
+use Rattle.streams.specs.Table.{freeSlot, keepsSlot, distinct, keepsTable, slotAt, withSlot, pastSlot, empty}
 use Rattle.streams.specs.Calls.{offer, take, force, close}
-use Rattle.streams.proofs.Lookups.{Kept, kept}
-use Rattle.streams.proofs.Places.{Place, place-at, used-key, every-set, distinct-less, distinct-new}
+use Rattle.streams.proofs.Lookups.{Kept}
+use Rattle.streams.proofs.Places.{place-at, used-key, every-set, distinct-less, distinct-new}
 use Rattle.streams.proofs.Moves.{Move, refusing, moving, opening, freeing, offer-moves, take-moves, force-moves, close-moves}
 
 set-keeps : (t : Table) (i : ℕ) (y : Slot) → Kept t → keepsSlot y ≡ true → distinct (set (t .slots) i y) ≡ true → keepsTable (withSlot t i y) ≡ true
@@ -52,6 +53,15 @@ move-keeps {t} {k} (moving {i} o g p u w) e =
     set-keeps t i (record { used = x .used; key = x .key; row = o .after }) g (next-slot x (o .after) (used-key k x (h .0)) s w) (distinct-less (t .slots) i _ (g .apart) (λ q. (q, refl)))
 move-keeps {t} {k} (opening {i} r g p n a w) e = set-keeps t i (record { used = true; key = k; row = r }) g (open-slot k r a w) (distinct-new (t .slots) i k r (g .apart) n)
 move-keeps {t} (freeing {i} g p) e = set-keeps t i freeSlot g free-slot (distinct-less (t .slots) i freeSlot (g .apart) (λ q. true-not-false false q refl))
+
+-- a free row is all zero
+pub free-is : (x : Slot) → x .used ≡ false → keepsSlot x ≡ true → x ≡ freeSlot
+unfolding keepsSlot
+free-is x u e =
+    let f = sym (if-no _ _ _ u) ∙ e in
+    let k = no-key (x .key) (and-left (isNoKey (x .key)) _ f) in
+    let r = no-row (x .row) (and-right (isNoKey (x .key)) _ f) in
+    λ i. record { used = u i; key = k i; row = r i }
 
 -- ---- the theorem, call by call
 

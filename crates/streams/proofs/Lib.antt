@@ -7,5 +7,6 @@ pub mod Keeps
 pub mod Refusals
 pub mod Others
 pub mod Alone
+pub mod Unknown
 pub mod Unique
 pub mod Cards

@@ -1,12 +1,12 @@
 -- What stands for a key, by the tests in their order; and the answers of the calls from their parts.
 use mathlib.Core.Path.{_≡_, refl, sym, ap, _∙_}
-use Prim.Native.Nat.{ℕ, _+_, _<_}
+use Prim.Native.Nat.{ℕ, _<_}
 use native.Mathlib.Omega.{arith}
 use mathlib.Core.Bool.{Bool, true, false}
 use mathlib.Core.List.{List}
 use lib.ListN.{length}
 use borrow.Author.Tests.{eq-eqb, eqb-true, ltb-false, ltb-true}
-use Rattle.octets.specs.Words.{if_then_else_, _and_, no, every, _<?_, _=?_}
+use Rattle.octets.specs.Words.{if_then_else_, no, every, _<?_, _=?_}
 use Rattle.octets.proofs.Tests.{if-yes, and-left, and-right}
 use Rattle.refusals.specs.Numbers.{stateBroken, noFreeRow}
 use Rattle.keys.specs.declared.Key.{Key}

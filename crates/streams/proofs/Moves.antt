@@ -1,35 +1,32 @@
 -- Every call is one of four moves: a refusal, a row's own call on the row of its key, a row opened for an unknown key, a row freed.
 -- The theorems of the table are proved of the moves.
-use mathlib.Core.Path.{_≡_, refl, sym, ap, _∙_, subst}
+use mathlib.Core.Path.{_≡_, refl, sym, _∙_, subst}
 use Prim.Native.Nat.{ℕ, _<_, _≤_}
 use native.Mathlib.Omega.{arith}
 use mathlib.Core.Bool.{Bool, true, false}
 use mathlib.Core.List.{List}
-use mathlib.Core.Option.{Option, none, some as just}
-use lib.ListN.{length, getD, set, length-set}
 use borrow.Author.Tests.{le-ltb, ltb-false}
-use Rattle.octets.specs.Words.{if_then_else_, _and_, no, every, some, _<?_, _=?_}
+use Rattle.octets.specs.Words.{if_then_else_, no, some, _<?_, _=?_}
 use Rattle.refusals.specs.Numbers.{noCallsign, streamIdMalformed}
-use Rattle.octets.proofs.Tests.{and-left, and-right, and-both, and-not-right, if-yes}
+use Rattle.octets.proofs.Tests.{and-right, and-not-right, if-yes}
 use Rattle.octets.proofs.Lists.{every-at}
 use Rattle.keys.specs.declared.Key.{Key}
 use Rattle.keys.specs.declared.Named.{Named}
-use Rattle.keys.specs.Key.{keyOf, noKey, keepsKey, namedOf, sameKey}
+use Rattle.keys.specs.Key.{keyOf, noKey, keepsKey, namedOf}
 use Rattle.keys.proofs.Names.{key-keeps}
 use Rattle.callsigns.specs.Callsign.{callsign}
 use Rattle.names.specs.Texts.{streamId}
 use Rattle.rows.specs.declared.Row.{Row}
 use Rattle.rows.specs.declared.Held.{Held}
-use Rattle.rows.specs.Answer.{Answer, accepted, refused, Outcome, refuse}
+use Rattle.rows.specs.Answer.{Answer, accepted, Outcome, refuse}
 use Rattle.rows.specs.Stream.{word, words, fresh, offer as row-offer}
-use Rattle.rows.specs.Row.{keepsRow, isNoRow, rowOf, offerOf, takeOf, forceOf}
+use Rattle.rows.specs.Row.{keepsRow, rowOf, offerOf, takeOf, forceOf}
 use Rattle.rows.proofs.Keeps.{fresh-keeps, offer-keeps-row, take-keeps-row, force-keeps-row}
 use Rattle.rows.proofs.Refusals.{Unmoved, offer-unmoved-row, take-unmoved-row, force-unmoved-row}
-use Rattle.streams.specs.declared.Slot.{Slot}
 use Rattle.streams.specs.declared.Table.{Table}
 use Rattle.streams.specs.declared.Found.{Found}
 use Rattle.streams.specs.declared.Lookup.{Lookup}
-use Rattle.streams.specs.Table.{freeSlot, isFree, keepsSlot, hasKey, distinct, keepsTable, first, slotAt, withSlot, pastSlot}
+use Rattle.streams.specs.Table.{freeSlot, isFree, keepsSlot, hasKey, first, slotAt, withSlot, pastSlot}
 use Rattle.streams.specs.Calls.{place, lookUp, onRow, opened, offerBy, offer, takeBy, take, forceBy, force, closeBy, close}
 use Rattle.streams.proofs.Lookups.{Kept, kept, by-lookup}
 use Rattle.streams.proofs.Places.{Place, place-at, first-place, first-none, used-key}

@@ -1,9 +1,8 @@
 -- THEOREM: a call on one key leaves the row of every other key as it was.
-use mathlib.Core.Path.{_≡_, refl, sym, _∙_}
+use mathlib.Core.Path.{_≡_, refl, _∙_}
 use Prim.Native.Nat.{ℕ}
 use mathlib.Core.Bool.{true, false}
 use mathlib.Core.List.{List}
-use Rattle.octets.specs.Words.{no}
 use Rattle.keys.specs.declared.Key.{Key}
 use Rattle.keys.specs.Key.{sameKey, namedOf}
 use Rattle.rows.specs.declared.Held.{Held}

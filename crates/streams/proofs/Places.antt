@@ -7,14 +7,14 @@ use mathlib.Core.List.{List, [], _∷_}
 use mathlib.Core.Option.{Option, none, some as just}
 use lib.ListN.{length, getD, set}
 use Rattle.octets.specs.Words.{if_then_else_, _and_, _or_, no, every, some}
-use Rattle.octets.proofs.Tests.{if-yes, if-no, and-left, and-right, and-both, and-next, and-not-left, true-not-false}
+use Rattle.octets.proofs.Tests.{if-yes, if-no, and-left, and-right, and-both, and-next, true-not-false}
 use Rattle.keys.specs.declared.Key.{Key}
 use Rattle.keys.specs.Key.{sameKey}
 use Rattle.keys.proofs.SameKey.{sameKey-refl, sameKey-sym, sameKey-trans, sameKey-other}
 use Rattle.rows.specs.declared.Row.{Row}
 use Rattle.streams.specs.declared.Slot.{Slot}
 use Rattle.streams.specs.declared.Found.{Found}
-use Rattle.streams.specs.Table.{freeSlot, hasKey, twice, distinct, first, pastSlot}
+use Rattle.streams.specs.Table.{hasKey, twice, distinct, first, pastSlot}
 use Rattle.streams.specs.Meaning.{rowIn}
 use Rattle.streams.proofs.Search.{found-nothing}
 
@@ -189,6 +189,15 @@ module _ (k : Key) where
   pub row-none : (l : List Slot) → some (hasKey k) l ≡ false → rowIn k l ≡ none
   row-none [] e = refl
   row-none (x ∷ l) e = if-no _ _ _ (or-false (hasKey k x) _ e .0) ∙ row-none l (or-false (hasKey k x) _ e .1)
+
+  -- a key that has no row stands in no slot
+  pub none-some : (l : List Slot) → rowIn k l ≡ none → some (hasKey k) l ≡ false
+  none-some [] e = refl
+  none-some (x ∷ l) e = go (hasKey k x) e (none-some l)
+    where
+      go : (b : Bool) → (if b then just (x .row) else rowIn k l) ≡ none → (rowIn k l ≡ none → some (hasKey k) l ≡ false) → b or some (hasKey k) l ≡ false
+      go true q r = let z : _≡_ {A = ℕ} 0 1 = cc in absurd (omega arith)
+      go false q r = r q
 
   pub row-place : {l : List Slot} {i : ℕ} → Place (hasKey k) l i → rowIn k l ≡ just (getD l i pastSlot .row)
   row-place (here e) = if-yes _ _ _ e

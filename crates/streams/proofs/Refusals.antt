@@ -1,14 +1,13 @@
 -- THEOREM: a refusal hands the table back as it came, every row and every clock included.
-use mathlib.Core.Path.{_≡_, refl, sym, ap, _∙_}
+use mathlib.Core.Path.{_≡_, refl, ap, _∙_}
 use Prim.Native.Nat.{ℕ}
 use mathlib.Core.List.{List}
-use lib.ListN.{set}
 use lib.Seq.{set-getD}
 use mathlib.Core.Bool.{true}
 use Rattle.keys.specs.declared.Key.{Key}
 use Rattle.rows.specs.declared.Held.{Held}
 use Rattle.rows.specs.declared.Row.{Row}
-use Rattle.rows.specs.Answer.{Answer, accepted, refused, Outcome}
+use Rattle.rows.specs.Answer.{Outcome}
 use Rattle.rows.specs.Stream.{word, words}
 use Rattle.rows.proofs.Refusals.{Unmoved}
 use Rattle.streams.specs.declared.Slot.{Slot}

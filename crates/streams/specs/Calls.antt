@@ -1,6 +1,6 @@
 -- Document 01, "Streams": the calls by key, with the refusals in the order of the paper's table, 40 first.
 use Prim.Native.Nat.{ℕ}
-use mathlib.Core.Bool.{Bool, true, false}
+use mathlib.Core.Bool.{true}
 use mathlib.Core.List.{List}
 use Rattle.octets.specs.Words.{if_then_else_, _and_, no, _<?_, _=?_}
 use Rattle.refusals.specs.Numbers.{stateBroken, stale, noFreeRow, noSuchStream, stillHolding}
@@ -9,10 +9,9 @@ use Rattle.keys.specs.declared.Named.{Named}
 use Rattle.keys.specs.Key.{namedOf, noKey}
 use Rattle.rows.specs.declared.Row.{Row}
 use Rattle.rows.specs.declared.Held.{Held}
-use Rattle.rows.specs.Answer.{Answer, accepted, refused, Outcome, refuse}
+use Rattle.rows.specs.Answer.{accepted, refused, Outcome, refuse}
 use Rattle.rows.specs.Stream.{fresh}
 use Rattle.rows.specs.Row.{rowOf, noRow, offerOf, takeOf, forceOf}
-use Rattle.streams.specs.declared.Slot.{Slot}
 use Rattle.streams.specs.declared.Table.{Table}
 use Rattle.streams.specs.declared.Found.{Found}
 use Rattle.streams.specs.declared.Lookup.{Lookup}

@@ -6,7 +6,6 @@ use lib.ListN.{length, getD, set, replicate}
 use Rattle.octets.specs.Words.{if_then_else_, _and_, no, every, some, _=?_}
 use Rattle.keys.specs.declared.Key.{Key}
 use Rattle.keys.specs.Key.{sameKey, keepsKey, isNoKey, noKey}
-use Rattle.rows.specs.declared.Row.{Row}
 use Rattle.rows.specs.Row.{keepsRow, isNoRow, noRow}
 use Rattle.streams.specs.declared.Slot.{Slot}
 use Rattle.streams.specs.declared.Table.{Table}

@@ -22,7 +22,7 @@ use rows::Giving;
 use rows::Held;
 use rows::Row;
 
-pub fn look_up(t: Table, named: Named) -> Lookup
+pub(crate) fn look_up(t: Table, named: Named) -> Lookup
     ensures { λ r. ⌜ r ≡ lookUp t named ⌝ }
 {
     if !slots::keep_rules(t) {
@@ -39,7 +39,7 @@ pub fn look_up(t: Table, named: Named) -> Lookup
     }
 }
 
-pub fn refused(n: u8, t: Table) -> Served
+pub(crate) fn refused(n: u8, t: Table) -> Served
     ensures { λ r. ⌜ servedSays r ≡ refuse n t ⌝ }
 {
     Served {
@@ -48,7 +48,7 @@ pub fn refused(n: u8, t: Table) -> Served
     }
 }
 
-pub fn refused_take(n: u8, t: Table) -> Taken
+pub(crate) fn refused_take(n: u8, t: Table) -> Taken
     ensures { λ r. ⌜ takenSays r ≡ refuse n t ⌝ }
 {
     Taken {
@@ -57,7 +57,7 @@ pub fn refused_take(n: u8, t: Table) -> Taken
     }
 }
 
-pub fn unseen(n: u8) -> Shown
+pub(crate) fn unseen(n: u8) -> Shown
     ensures { λ r. ⌜ shownSays r ≡ record { answer = refused n; key = noKey; row = noRow } ⌝ }
 {
     let key = keys::none();
@@ -88,7 +88,7 @@ fn put_row(t: Table, i: usize, row: Row) -> Table
     put(t, i, x)
 }
 
-pub fn offer_at(t: Table, i: usize, m: Held, time: u32) -> Served
+pub(crate) fn offer_at(t: Table, i: usize, m: Held, time: u32) -> Served
     requires { ⌜ i < 32 ⌝ }
     ensures { λ r. ⌜ servedSays r ≡ onRow t i (offerOf (slotAt t i .row) m time) ⌝ }
 {
@@ -105,7 +105,7 @@ pub fn offer_at(t: Table, i: usize, m: Held, time: u32) -> Served
 }
 
 // An unknown key expects 1 and takes the lowest free row.
-pub fn offer_new(t: Table, key: Key, m: Held, time: u32) -> Served
+pub(crate) fn offer_new(t: Table, key: Key, m: Held, time: u32) -> Served
     ensures { λ r. ⌜ servedSays r ≡ offerBy t key m time Lookup.Unknown ⌝ }
 {
     if m.number < 1 {
@@ -130,7 +130,7 @@ pub fn offer_new(t: Table, key: Key, m: Held, time: u32) -> Served
     }
 }
 
-pub fn take_at(t: Table, i: usize, time: u32) -> Taken
+pub(crate) fn take_at(t: Table, i: usize, time: u32) -> Taken
     requires { ⌜ i < 32 ⌝ }
     ensures { λ r. ⌜ takenSays r ≡ onRow t i (takeOf (slotAt t i .row) time) ⌝ }
 {
@@ -146,7 +146,7 @@ pub fn take_at(t: Table, i: usize, time: u32) -> Taken
     }
 }
 
-pub fn force_at(t: Table, i: usize, time: u32) -> Taken
+pub(crate) fn force_at(t: Table, i: usize, time: u32) -> Taken
     requires { ⌜ i < 32 ⌝ }
     ensures { λ r. ⌜ takenSays r ≡ onRow t i (forceOf (slotAt t i .row) time) ⌝ }
 {
@@ -162,7 +162,7 @@ pub fn force_at(t: Table, i: usize, time: u32) -> Taken
     }
 }
 
-pub fn close_at(t: Table, i: usize) -> Served
+pub(crate) fn close_at(t: Table, i: usize) -> Served
     requires { ⌜ i < 32 ⌝ }
     ensures { λ r. ⌜ servedSays r ≡ closeBy t (Lookup.Open i) ⌝ }
 {

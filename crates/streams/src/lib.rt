@@ -26,13 +26,13 @@ pub struct Table {
 }
 
 // The place of a slot, where a search found one.
-pub enum Found {
+pub(crate) enum Found {
     At(usize),
     Nothing,
 }
 
 // What stands for a key: a refusal, the place of its row, or no row.
-pub enum Lookup {
+pub(crate) enum Lookup {
     Refused(u8),
     Open(usize),
     Unknown,

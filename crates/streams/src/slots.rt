@@ -11,7 +11,7 @@ use keys::Key;
 use rows::Row;
 
 // A free row.
-pub fn free_slot() -> Slot
+pub(crate) fn free_slot() -> Slot
     ensures { λ r. ⌜ r ≡ freeSlot ⌝ }
 {
     let key = keys::none();
@@ -108,7 +108,7 @@ fn keys_differ(t: Table) -> bool
 }
 
 // Whether the table keeps its rules (40).
-pub fn keep_rules(t: Table) -> bool
+pub(crate) fn keep_rules(t: Table) -> bool
     ensures { λ r. ⌜ r ≡ keepsTable t ⌝ }
 {
     if !each_keeps(t) {
@@ -118,7 +118,7 @@ pub fn keep_rules(t: Table) -> bool
 }
 
 // The slot that has the key.
-pub fn find(t: Table, key: Key) -> Found
+pub(crate) fn find(t: Table, key: Key) -> Found
     ensures { λ r. ⌜ r ≡ first (hasKey key) 0 (t .slots) ⌝ }
 {
     let mut i: usize = 0;
@@ -133,7 +133,7 @@ pub fn find(t: Table, key: Key) -> Found
 }
 
 // The lowest free row.
-pub fn find_free(t: Table) -> Found
+pub(crate) fn find_free(t: Table) -> Found
     ensures { λ r. ⌜ r ≡ first isFree 0 (t .slots) ⌝ }
 {
     let mut i: usize = 0;
@@ -148,7 +148,7 @@ pub fn find_free(t: Table) -> Found
 }
 
 // How many rows are open.
-pub fn used_count(t: Table) -> usize
+pub(crate) fn used_count(t: Table) -> usize
     ensures { λ r. ⌜ r ≡ count (λ x. x .used) (t .slots) ⌝ }
 {
     let mut sum: usize = 0;
