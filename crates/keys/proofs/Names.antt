@@ -9,18 +9,14 @@ use lib.Seq.{take-append-seam, drop-append-seam}
 use borrow.Author.Tests.{eq-eqb, ne-eqb, eqb-true, le-leb, lt-leb}
 use Rattle.octets.specs.Words.{_and_, _≤?_, _=?_}
 use Rattle.octets.specs.Bytes.{front, placed}
-use Rattle.octets.proofs.Tests.{and-left, and-right, and-both, and-next, and-not-left, inside-high}
+use Rattle.octets.proofs.Tests.{and-left, and-right, and-both, and-next, and-not-left}
 use Rattle.octets.proofs.Lists.{placed-in}
 use Rattle.callsigns.specs.Callsign.{callsign}
-use Rattle.names.specs.Texts.{streamId, ruled}
+use Rattle.names.specs.Texts.{streamId}
+use Rattle.names.proofs.Lengths.{streamId-short}
 use Rattle.callsigns.proofs.Lengths.{callsign-short}
 use Rattle.keys.specs.declared.Key.{Key}
 use Rattle.keys.specs.Key.{originatorOf, streamIdOf, keyOf, noKey, zeros, isNoKey, holdsName, keepsKey}
-
--- a stream id has at most 255 bytes
-pub id-short : (s : List ℕ) → streamId s ≡ true → length s ≤ 255
-unfolding streamId
-id-short s e = inside-high 1 255 (length s) (and-left _ (ruled false s) e)
 
 -- copied to the place 0, a name stands in the front
 pub copied : (name buffer : List ℕ) → length name ≤ length buffer → placed name 0 buffer ≡ front name buffer
@@ -63,7 +59,7 @@ module _ (o s : List ℕ) where
   -- the key of two valid names keeps the rules
   pub key-keeps : callsign o ≡ true → streamId s ≡ true → keepsKey (keyOf o s) ≡ true
   unfolding keepsKey keyOf
-  key-keeps c d = and-both _ _ (holds-front 12 callsign o c (callsign-short o c)) (holds-front 255 streamId s d (id-short s d))
+  key-keeps c d = and-both _ _ (holds-front 12 callsign o c (callsign-short o c)) (holds-front 255 streamId s d (streamId-short s d))
 
 -- a key of zeros is `noKey`
 pub no-key : (k : Key) → isNoKey k ≡ true → k ≡ noKey

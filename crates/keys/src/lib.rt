@@ -34,7 +34,7 @@ pub fn none() -> Key
 pub fn name(originator: &[u8], stream_id: &[u8]) -> Named
     ensures { λ r. ⌜ r ≡ namedOf (now (originator .entry)) (now («stream_id» .entry)) ⌝ }
 {
-    if !parts::is_call(originator) {
+    if !callsigns::is_callsign(originator) {
         let key = none();
         return Named {
             refusal: refusals::NO_CALLSIGN,

@@ -6,7 +6,6 @@ ghost use Rattle.callsigns.specs.Callsign.{callsign};
 ghost use Rattle.names.specs.Texts.{streamId};
 ghost use Rattle.keys.specs.Key.{zeros, holdsName, keyOf};
 use crate::Key;
-use callsigns::Callsign;
 
 // The first n bytes, or all where there are fewer.
 pub(crate) fn part(a: &[u8], n: usize) -> &[u8]
@@ -32,17 +31,6 @@ pub(crate) fn zero_from(s: &[u8], n: usize) -> bool
     true
 }
 
-// Whether a text is a callsign.
-pub(crate) fn is_call(s: &[u8]) -> bool
-    ensures { λ r. ⌜ r ≡ callsign (now (s .entry)) ⌝ }
-{
-    let c = callsigns::read_callsign(s);
-    match c {
-        Callsign::Is(_) => true,
-        Callsign::Malformed => false,
-    }
-}
-
 // Whether an array of 12 bytes has a callsign of n bytes, and zeros behind it.
 pub(crate) fn call_in(a: &[u8], n: usize) -> bool
     ensures { λ r. ⌜ r ≡ holdsName 12 callsign n (now (a .entry)) ⌝ }
@@ -53,7 +41,7 @@ pub(crate) fn call_in(a: &[u8], n: usize) -> bool
     if n > 12 {
         return false;
     }
-    if !is_call(part(a, n)) {
+    if !callsigns::is_callsign(part(a, n)) {
         return false;
     }
     zero_from(a, n)

@@ -9,7 +9,7 @@ use Rattle.octets.specs.Bytes.{same}
 use Rattle.utf8.specs.Utf8 as utf8
 use Rattle.callsigns.specs.Runs as runs
 use Rattle.callsigns.specs.Callsign.{alnum, suffix, baseLength, callsign, sameCall}
-use Rattle.names.specs.Texts.{textByte, ruled, streamId}
+use Rattle.names.specs.Texts.{textByte, ruled, idText, streamId}
 use Rattle.keys.specs.Key.{sameKey, keyOf, isNoKey, keepsKey, namedOf}
 use Rattle.rows.specs.Row.{keepsRow, isNoRow}
 use Rattle.rows.specs.Stream as stream
@@ -93,5 +93,5 @@ cards =
     ∷ []
 
 pub cards-hold : every (λ c. plays c empty) cards ≡ true
-unfolding same utf8.run runs.run runs.rest alnum suffix baseLength callsign sameCall textByte ruled streamId sameKey keyOf isNoKey keepsKey namedOf keepsRow isNoRow stream.keeps stream.offer stream.take stream.force keepsSlot hasKey keepsTable calls.lookUp calls.openRows calls.rowAt
+unfolding same utf8.run runs.run runs.rest alnum suffix baseLength callsign sameCall textByte ruled idText streamId sameKey keyOf isNoKey keepsKey namedOf keepsRow isNoRow stream.keeps stream.offer stream.take stream.force keepsSlot hasKey keepsTable calls.lookUp calls.openRows calls.rowAt
 cards-hold = refl

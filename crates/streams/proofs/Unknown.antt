@@ -9,7 +9,7 @@ use borrow.Author.Tests.{le-ltb}
 use Rattle.octets.specs.Words.{if_then_else_, _<?_}
 use Rattle.refusals.specs.Numbers.{stateBroken, noCallsign, streamIdMalformed, stale, noFreeRow, noSuchStream}
 use Rattle.keys.specs.Key.{keyOf, namedOf}
-use Rattle.names.specs.Callsign.{callsign}
+use Rattle.callsigns.specs.Callsign.{callsign}
 use Rattle.names.specs.Texts.{streamId}
 use Rattle.rows.specs.declared.Held.{Held}
 use Rattle.rows.specs.Answer.{Outcome, refuse}

@@ -4,38 +4,38 @@ use borrow.Author.Needs.{needs}
 use borrow.Author.Tests.{not-true, not-false}
 use Rattle.octets.proofs.Tests.{if-yes, if-no, no-true, no-false}
 use Rattle.callsigns.proofs.Lengths.{callsign-short}
+use Rattle.names.proofs.Lengths.{streamId-short}
 use Rattle.keys.specs.Key.{namedOf}
-use Rattle.keys.proofs.Names.{id-short}
 use Rattle.keys.proofs.name.Statement.{statement}
 use Rattle.keys.proofs.name.Tie as tie
 
 returns : tie.Need-returns
 unfolding namedOf
 returns c =
-    let at-is-call = c .before .before .is-call in
-    sym (if-yes _ _ _ (no-false _ (sym (at-is-call .ensures) ∙ not-true _ (c .before .if1 .taken))) ∙ rw (c .none .ensures))
+    let at-is-callsign = c .before .before .is-callsign in
+    sym (if-yes _ _ _ (no-false _ (sym (at-is-callsign .ensures) ∙ not-true _ (c .before .if1 .taken))) ∙ rw (c .none .ensures))
 
 returns-2 : tie.Need-returns-2
 unfolding namedOf
 returns-2 c =
-    let at-is-call = c .before .before .before .before .is-call in
+    let at-is-callsign = c .before .before .before .before .is-callsign in
     let at-if1 = c .before .before .before .if1 in
     let at-is-stream-id = c .before .before .is-stream-id in
-    sym (if-no _ _ _ (no-true _ (sym (at-is-call .ensures) ∙ not-false _ (at-if1 .left))) ∙ if-yes _ _ _ (no-false _ (sym (at-is-stream-id .ensures) ∙ not-true _ (c .before .if2 .taken))) ∙ rw (c .none2 .ensures))
+    sym (if-no _ _ _ (no-true _ (sym (at-is-callsign .ensures) ∙ not-false _ (at-if1 .left))) ∙ if-yes _ _ _ (no-false _ (sym (at-is-stream-id .ensures) ∙ not-true _ (c .before .if2 .taken))) ∙ rw (c .none2 .ensures))
 
 key-of-requires : tie.Need-key-of-requires
 key-of-requires c κs =
-    let at-is-call = c .before .before .before .is-call in
+    let at-is-callsign = c .before .before .before .is-callsign in
     let at-if1 = c .before .before .if1 in
-    (callsign-short _ (sym (at-is-call .ensures) ∙ not-false _ (at-if1 .left)), id-short _ (sym (c .before .is-stream-id .ensures) ∙ not-false _ (c .if2 .left)))
+    (callsign-short _ (sym (at-is-callsign .ensures) ∙ not-false _ (at-if1 .left)), streamId-short _ (sym (c .before .is-stream-id .ensures) ∙ not-false _ (c .if2 .left)))
 
 returns-3 : tie.Need-returns-3
 unfolding namedOf
 returns-3 c =
-    let at-is-call = c .before .before .before .before .is-call in
+    let at-is-callsign = c .before .before .before .before .is-callsign in
     let at-if1 = c .before .before .before .if1 in
     let at-is-stream-id = c .before .before .is-stream-id in
-    sym (if-no _ _ _ (no-true _ (sym (at-is-call .ensures) ∙ not-false _ (at-if1 .left))) ∙ if-no _ _ _ (no-true _ (sym (at-is-stream-id .ensures) ∙ not-false _ (c .before .if2 .left))) ∙ rw (c .key-of .ensures))
+    sym (if-no _ _ _ (no-true _ (sym (at-is-callsign .ensures) ∙ not-false _ (at-if1 .left))) ∙ if-no _ _ _ (no-true _ (sym (at-is-stream-id .ensures) ∙ not-false _ (c .before .if2 .left))) ∙ rw (c .key-of .ensures))
 
 pub name-spec : {M : Type 1} → statement M
 name-spec =

@@ -23,7 +23,7 @@ returns-3 c =
     let at-if1 = c .before .before .before .before .if1 in
     let at-if2 = c .before .before .before .if2 in
     let at-part = c .before .before .part in
-    holds-bad 12 callsign (at-args .n) (at-args .a .now) (at-if1 .left) (at-if2 .left) (ap callsign (sym (at-part .ensures)) ∙ sym (c .before .is-call .ensures) ∙ not-true _ (c .if3 .taken))
+    holds-bad 12 callsign (at-args .n) (at-args .a .now) (at-if1 .left) (at-if2 .left) (ap callsign (sym (at-part .ensures)) ∙ sym (c .before .is-callsign .ensures) ∙ not-true _ (c .if3 .taken))
 
 returns-4 : tie.Need-returns-4
 returns-4 c =
@@ -31,8 +31,8 @@ returns-4 c =
     let at-if1 = c .before .before .before .before .before .if1 in
     let at-if2 = c .before .before .before .before .if2 in
     let at-part = c .before .before .before .part in
-    let at-is-call = c .before .before .is-call in
-    c .zero-from .ensures ∙ holds-good 12 callsign (at-args .n) (at-args .a .now) (at-if1 .left) (at-if2 .left) (ap callsign (sym (at-part .ensures)) ∙ sym (at-is-call .ensures) ∙ not-false _ (c .before .if3 .left))
+    let at-is-callsign = c .before .before .is-callsign in
+    c .zero-from .ensures ∙ holds-good 12 callsign (at-args .n) (at-args .a .now) (at-if1 .left) (at-if2 .left) (ap callsign (sym (at-part .ensures)) ∙ sym (at-is-callsign .ensures) ∙ not-false _ (c .before .if3 .left))
 
 pub call-in-spec : {M : Type 1} → statement M
 call-in-spec =
