@@ -1,4 +1,4 @@
--- What the cut path and the end are made of: a piece in three parts, and the padding in two or three.
+-- What the slice path and the end are made of: a piece in two parts, and the padding in two or three.
 use mathlib.Core.List.{List, _∷_, _++_, append-assoc}
 use mathlib.Core.Path.{_≡_, refl, sym, ap, _∙_}
 use Prim.Native.Nat.{ℕ, zero, suc, _+_, _-_, _*_, _/_, _%_, _^_, _≤_, _<_}

@@ -8,14 +8,13 @@ use Rattle.sha1.proofs.Sha1.finish.Tie as tie
 close-requires : tie.Need-close-requires
 close-requires c κs =
     let at-args = c .before .before .args in
-    marked-to (at-args .self) (c .mark .result) (search needs) 56 (c .before .if1 .taken) (search needs) (c .mark .ensures)
+    marked-to (at-args .self) (c .mark .result) (search needs) 56 (search needs) (search needs) (c .mark .ensures)
 
 returns : tie.Need-returns
 returns c =
     let at-args = c .before .before .before .args in
     let at-mark = c .before .mark in
-    let at-if1 = c .before .before .if1 in
-    end-short (at-args .self) (at-mark .result) _ (at-if1 .taken) (at-mark .ensures) (c .close .ensures)
+    end-short (at-args .self) (at-mark .result) _ (search needs) (at-mark .ensures) (c .close .ensures)
 
 zeros-requires : tie.Need-zeros-requires
 zeros-requires c κs =
@@ -33,8 +32,7 @@ returns-2 c =
     let at-args = c .before .before .before .before .args in
     let at-mark2 = c .before .before .mark2 in
     let at-zeros = c .before .zeros in
-    let at-if1 = c .before .before .before .if1 in
-    end-long (at-args .self) (at-mark2 .result) _ (at-zeros .result) (at-if1 .left) (at-mark2 .ensures) (at-zeros .ensures) (c .close2 .ensures)
+    end-long (at-args .self) (at-mark2 .result) _ (at-zeros .result) (search needs) (at-mark2 .ensures) (at-zeros .ensures) (c .close2 .ensures)
 
 pub finish-spec : {M : Type 1} → statement M
 finish-spec =
