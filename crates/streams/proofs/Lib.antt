@@ -9,4 +9,3 @@ pub mod Others
 pub mod Alone
 pub mod Unknown
 pub mod Unique
-pub mod Cards

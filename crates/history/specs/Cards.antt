@@ -1,23 +1,14 @@
--- Document 01, "Bench cards": cards 1 to 8 hold, by computation, under one statement over one table of cards. Each card is played on an
--- empty table, on the stream `chat` of originator `G0ORIG`.
-use mathlib.Core.Path.{_≡_, refl}
+-- Document 01, "Bench cards": a card's lines, how a card is played, and the table of cards 1 to 8. Each card is played on an empty table,
+-- on the stream `chat` of originator `G0ORIG`.
 use Prim.Native.Nat.{ℕ, zero, suc, _+_}
 use mathlib.Core.Bool.{Bool, true, false}
 use mathlib.Core.List.{List, [], _∷_}
-use Rattle.octets.specs.Words.{_and_, every, _=?_}
+use Rattle.octets.specs.Words.{_and_, _=?_}
 use Rattle.octets.specs.Bytes.{same}
-use Rattle.utf8.specs.Utf8 as utf8
-use Rattle.callsigns.specs.Runs as runs
-use Rattle.callsigns.specs.Callsign.{alnum, suffix, baseLength, callsign, sameCall}
-use Rattle.names.specs.Texts.{textByte, ruled, idText, streamId}
-use Rattle.keys.specs.Key.{sameKey, keyOf, isNoKey, keepsKey, namedOf}
-use Rattle.rows.specs.Row.{keepsRow, isNoRow}
-use Rattle.rows.specs.Stream as stream
 use Rattle.rows.specs.Answer.{Answer, accepted, given, nothing, refused, Outcome}
 use Rattle.streams.specs.declared.Table.{Table}
 use Rattle.streams.specs.Answer.{Counted, counted, uncounted}
-use Rattle.streams.specs.Table.{empty, keepsSlot, hasKey, keepsTable}
 use Rattle.streams.specs.Calls as calls
 
 -- a line of a card: a call and its answer; or what the first row expects and its clock; or how many rows are open
 pub data Line : Type 0 where
@@ -91,7 +82,3 @@ cards =
     -- 8. Offer 2 to 16: accepted; 17: 12; 1: accepted.
     ∷ offers 2 15 (offer 17 0 0 (refused 12) ∷ offer 1 0 0 accepted ∷ [])
     ∷ []
-
-pub cards-hold : every (λ c. plays c empty) cards ≡ true
-unfolding same utf8.run runs.run runs.rest alnum suffix baseLength callsign sameCall textByte ruled idText streamId sameKey keyOf isNoKey keepsKey namedOf keepsRow isNoRow stream.keeps stream.offer stream.take stream.force keepsSlot hasKey keepsTable calls.lookUp calls.openRows calls.rowAt
-cards-hold = refl

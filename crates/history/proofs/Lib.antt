@@ -1,0 +1,2 @@
+-- The cards hold.
+pub mod Cards

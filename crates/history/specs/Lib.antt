@@ -1,0 +1,2 @@
+-- Document 01, "Bench cards".
+pub mod Cards
