@@ -1,7 +1,7 @@
 -- Worked cases of the definitions, each computed: the numbers that are SSIDs, and names of document 01.
 use Prim.Native.Nat.{ℕ, zero, suc, _+_, _/_, _%_}
 use mathlib.Core.Path.{_≡_, refl}
-use mathlib.Core.Bool.{Bool, true, false}
+use mathlib.Core.Bool.{true, false}
 use mathlib.Core.List.{List, [], _∷_}
 use Rattle.octets.specs.Words.{if_then_else_, _and_, no, _<?_, _=?_, between, every}
 use Rattle.callsigns.specs.Runs.{run, rest}

@@ -1,10 +1,10 @@
 -- A rule that holds where its flag is set, and the rules of fields, as the code tests them.
 use Prim.Native.Nat.{ℕ, _≤_, _<_, _^_}
-use mathlib.Core.Path.{_≡_, refl, ap, sym, _∙_}
+use mathlib.Core.Path.{_≡_, sym, _∙_}
 use mathlib.Core.Bool.{Bool, true, false, not}
 use native.Mathlib.Omega.{arith}
 use borrow.Author.Tests.{le-leb, not-true, not-false}
-use Rattle.octets.specs.Words.{if_then_else_, _and_, between, _≤?_}
+use Rattle.octets.specs.Words.{_and_, _≤?_}
 use Rattle.octets.proofs.Tests.{if-yes, if-no, and-next, and-not-left, below, inside}
 use Rattle.envelope.specs.Rules.{given, idIn, ttlIn, fragmentIn}
 

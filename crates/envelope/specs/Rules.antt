@@ -1,6 +1,6 @@
 -- Document 01, "Names and fields": the rules of the fields that a line and a datagram share.
 use Prim.Native.Nat.{ℕ, _^_}
-use mathlib.Core.Bool.{Bool, true, false}
+use mathlib.Core.Bool.{Bool, true}
 use mathlib.Core.List.{List}
 use lib.ListN.{take}
 use Rattle.octets.specs.Words.{if_then_else_, _and_, _<?_, _≤?_, between}

@@ -1,9 +1,9 @@
 -- Texts held in arrays: the text, then zeros, beside its length. A text too long for its array is held as none.
 use Prim.Native.Nat.{ℕ, _+_}
-use mathlib.Core.Bool.{true, false}
+use mathlib.Core.Bool.{false}
 use mathlib.Core.List.{List, []}
 use lib.ListN.{length, replicate, set}
-use lib.IntN.{ℤ, pos}
+use lib.IntN.{pos}
 use Rattle.octets.specs.Words.{if_then_else_, _≤?_}
 use Rattle.octets.specs.Bytes.{front}
 use Rattle.headers.specs.declared.Header.{Header}

@@ -3,11 +3,9 @@ use Prim.Native.Nat.{ℕ, _≤_}
 use mathlib.Core.Path.{_≡_}
 use mathlib.Core.Bool.{true}
 use mathlib.Core.List.{List}
-use native.Mathlib.Omega.{arith}
 use borrow.Author.Tests.{leb-true}
 use lib.ListN.{length}
-use Rattle.octets.specs.Words.{_=?_, between}
-use Rattle.octets.proofs.Tests.{and-left, and-right, true-not-false, inside-high}
+use Rattle.octets.proofs.Tests.{and-left, inside-high}
 use Rattle.names.specs.Texts.{idText, streamId, headerKey, headerValue}
 
 id-text-short : (most : ℕ) (s : List ℕ) → idText most s ≡ true → length s ≤ most

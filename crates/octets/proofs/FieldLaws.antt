@@ -5,16 +5,15 @@ use mathlib.Core.Path.{_≡_, refl, ap, sym, _∙_}
 use mathlib.Core.List.{List, [], _∷_, _++_, append-assoc, map}
 use mathlib.Core.Bool.{Bool, true, false}
 use native.Mathlib.Omega.{arith}
-use lib.ListN.{length, take, drop, length-append, length-take, length-drop, take-append-drop, replicate, length-map}
+use lib.ListN.{length, take, drop, length-append, length-take, length-drop, take-append-drop}
 use lib.Seq.{take-append-seam, drop-append-seam, drop-drop}
-use lib.IntN.{ℤ}
 use lib.Signed.{mag}
 use mir.Syntax.{w64}
 use mir.Val.{Fits}
 use mir.ValLaws.{ofZ-toZ, toZ-fits}
 use borrow.Author.Tests.{ltb-true, leb-true, eqb-true, lt-ltb, le-leb, lt-leb, eq-eqb}
 use Rattle.octets.specs.Words.{if_then_else_, _and_, every, _≤?_, _=?_, _<?_}
-use Rattle.octets.specs.Bytes.{Bytes, front}
+use Rattle.octets.specs.Bytes.{Bytes}
 use Rattle.octets.specs.Numbers.{little, littleBytes, twos, signed}
 use Rattle.octets.specs.Field.{Res, bad, got, bind, Field, num, raw, only, when, seq, tagged, held, manyParse, manyPrint, many, inArray, signedNum}
 use Rattle.octets.proofs.Tests.{if-yes, if-no, and-left, and-right, and-both}

@@ -2,15 +2,15 @@
 use mathlib.Core.Path.{_≡_, refl, ap, sym, _∙_}
 use mathlib.Core.Bool.{Bool, true, false}
 use mathlib.Core.List.{List, [], _∷_, _++_, append-assoc}
-use Prim.Native.Nat.{ℕ, zero, suc, _+_, _-_, _≤_, _<_}
+use Prim.Native.Nat.{ℕ, zero, suc, _+_, _≤_, _<_}
 use native.Mathlib.Omega.{arith}
 use native.Mathlib.Numerals.{add-one}
 use lib.ListN.{length, getD, take, drop, set, length-append, length-drop, length-take, length-set, take-append-drop}
-use lib.Seq.{drop-cons, drop-length, drop-append-seam, take-append-seam, drop-append-add, drop-set-lt, take-suc-set}
+use lib.Seq.{drop-cons, drop-length, drop-set-lt, take-suc-set}
 use borrow.Author.Tests.{le-leb, lt-leb, leb-true, eq-eqb, ne-eqb, eqb-true}
-use Rattle.octets.specs.Words.{if_then_else_, _and_, _or_, every, some, _=?_}
-use Rattle.octets.specs.Bytes.{same, front, fits, placed}
-use Rattle.octets.proofs.Tests.{if-yes, if-no, and-left, and-right, and-next, and-not-left, and-not-right, true-not-false}
+use Rattle.octets.specs.Words.{if_then_else_, _and_, every, some, _=?_}
+use Rattle.octets.specs.Bytes.{same, fits, placed}
+use Rattle.octets.proofs.Tests.{if-yes, if-no, and-left, and-right, and-next, and-not-left, true-not-false}
 
 -- ---- one element, and the rest
 

@@ -1,7 +1,7 @@
 -- THEOREM: the expected number always finds its place: on a row that keeps the rules an offer of exactly the expected number is accepted,
 -- unless that number is held already; and the row then holds it in one of its sixteen places.
 use mathlib.Core.Path.{_≡_, refl}
-use Prim.Native.Nat.{ℕ, _≤_, _<_}
+use Prim.Native.Nat.{ℕ, _≤_}
 use native.Mathlib.Omega.{arith}
 use mathlib.Core.Bool.{true, false}
 use lib.ListN.{length}

@@ -1,7 +1,7 @@
 -- Every call is one of four moves: a refusal, a row's own call on the row of its key, a row opened for an unknown key, a row freed.
 -- The theorems of the table are proved of the moves.
 use mathlib.Core.Path.{_≡_, refl, sym, _∙_, subst}
-use Prim.Native.Nat.{ℕ, _<_, _≤_}
+use Prim.Native.Nat.{ℕ, _≤_}
 use native.Mathlib.Omega.{arith}
 use mathlib.Core.Bool.{Bool, true, false}
 use mathlib.Core.List.{List}

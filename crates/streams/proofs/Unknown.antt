@@ -1,5 +1,5 @@
 -- THEOREM: what a call on a key that has no row does, and when a call is refused before any row is looked for.
-use mathlib.Core.Path.{_≡_, refl, sym, ap, _∙_}
+use mathlib.Core.Path.{_≡_, refl, ap, _∙_}
 use Prim.Native.Nat.{ℕ, _≤_}
 use native.Mathlib.Omega.{arith}
 use mathlib.Core.Bool.{true, false}
@@ -12,7 +12,7 @@ use Rattle.keys.specs.Key.{keyOf, namedOf}
 use Rattle.callsigns.specs.Callsign.{callsign}
 use Rattle.names.specs.Texts.{streamId}
 use Rattle.rows.specs.declared.Held.{Held}
-use Rattle.rows.specs.Answer.{Outcome, refuse}
+use Rattle.rows.specs.Answer.{refuse}
 use Rattle.rows.specs.Stream.{fresh}
 use Rattle.rows.specs.Row.{rowOf, offerOf}
 use Rattle.streams.specs.declared.Table.{Table}
@@ -21,7 +21,7 @@ use Rattle.streams.specs.declared.Lookup.{Lookup}
 use Rattle.streams.specs.Table.{isFree, hasKey, keepsTable, first}
 use Rattle.streams.specs.Calls.{place, lookUp, opened, offer, takeBy, take, forceBy, force, closeBy, close}
 use Rattle.streams.specs.Meaning.{rowFor}
-use Rattle.streams.proofs.Places.{place-at, first-place, first-none, none-some, row-place, row-new, own-key}
+use Rattle.streams.proofs.Places.{place-at, first-place, none-some, row-place, row-new, own-key}
 use Rattle.streams.proofs.Alone.{Does, named-is}
 
 -- ---- 40, 8 and 9
