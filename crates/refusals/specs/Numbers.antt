@@ -18,6 +18,10 @@ formatD = 3
 abbrev pub payloadTooLong : ℕ
 payloadTooLong = 4
 
+-- no payload is longer
+abbrev pub longestPayload : ℕ
+longestPayload = 4096
+
 -- lent buffer too short for the whole answer
 abbrev pub bufferTooShort : ℕ
 bufferTooShort = 5

@@ -10,6 +10,8 @@ pub const CHK_DIFFERS: u8 = 2;
 pub const FORMAT_D: u8 = 3;
 // Payload length above 4,096 (line, datagram, id).
 pub const PAYLOAD_TOO_LONG: u8 = 4;
+// No payload is longer.
+pub const LONGEST_PAYLOAD: usize = 4096;
 // Lent buffer too short for the whole answer.
 pub const BUFFER_TOO_SHORT: u8 = 5;
 // Datagram empty or first byte not 7.

@@ -12,7 +12,7 @@ use Rattle.octets.specs.Bytes.{placed}
 use Rattle.octets.specs.Numbers.{littleBytes, twos}
 use Rattle.octets.proofs.Tests.{if-yes, if-no}
 use Rattle.octets.proofs.NumberLaws.{length-bytes}
-use Rattle.refusals.specs.Numbers.{payloadTooLong}
+use Rattle.refusals.specs.Numbers.{payloadTooLong, longestPayload}
 use Rattle.text.specs.Digits.{digit, digits}
 use Rattle.text.specs.Hex.{hexDigits, hexValue}
 use Rattle.text.proofs.Numerals.{length-digits}
@@ -23,7 +23,7 @@ use Rattle.sha1.specs.declared.Salt.{Salt}
 use Rattle.sha1.specs.declared.IdAnswer.the-variants.{Is, Refused}
 use Rattle.sha1.specs.Sha1.{initial, plus, compressed, chain, sha1}
 use Rattle.sha1.specs.Machine.{fresh, fedAll, fedPieces, joined, finished}
-use Rattle.sha1.specs.Id.{saltBytes, firstSeven, idNumber, longestPayload, messageId}
+use Rattle.sha1.specs.Id.{saltBytes, firstSeven, idNumber, messageId}
 use Rattle.sha1.proofs.Feed.{parts, over}
 use Rattle.sha1.proofs.AnyPieces.{digest, any-pieces}
 

@@ -5,7 +5,7 @@ use Prim.Native.Nat.{ℕ}
 use lib.ListN.{length, take}
 use Rattle.octets.specs.Words.{if_then_else_, _<?_}
 use Rattle.octets.specs.Numbers.{littleBytes, twos}
-use Rattle.refusals.specs.Numbers.{payloadTooLong}
+use Rattle.refusals.specs.Numbers.{payloadTooLong, longestPayload}
 use Rattle.text.specs.Hex.{hexDigits, hexValue}
 use Rattle.sha1.specs.declared.Hash.{Hash}
 use Rattle.sha1.specs.declared.Salt.{Salt}
@@ -26,9 +26,6 @@ firstSeven h = take 7 (inHex h)
 
 abbrev pub idNumber : Hash → ℕ
 idNumber h = hexValue (firstSeven h)
-
-abbrev pub longestPayload : ℕ
-longestPayload = 4096
 
 -- the answer for a payload as a whole
 abbrev pub messageId : Salt → List ℕ → IdAnswer

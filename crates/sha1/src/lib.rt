@@ -34,9 +34,6 @@ pub enum IdAnswer {
     Refused(u8),
 }
 
-// No payload is longer.
-pub const LONGEST_PAYLOAD: usize = 4096;
-
 impl Sha1 {
     // Nothing was fed.
     pub fn new() -> Sha1
@@ -111,7 +108,7 @@ impl Sha1 {
 pub fn message_id(salt: Salt, payload: &[u8]) -> IdAnswer
     ensures { λ r. ⌜ r ≡ messageId salt (now (payload .entry)) ⌝ }
 {
-    if LONGEST_PAYLOAD < payload.len() {
+    if refusals::LONGEST_PAYLOAD < payload.len() {
         return IdAnswer::Refused(refusals::PAYLOAD_TOO_LONG);
     }
     IdAnswer::Is(Sha1::salted(salt).feed_all(payload).id())
