@@ -1,0 +1,3 @@
+-- Document 01, "Fragments": the groups of the house store.
+pub mod Key
+pub mod Groups

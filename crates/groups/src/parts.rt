@@ -1,0 +1,154 @@
+// A group's key and its parts.
+ghost use mathlib.Core.Path.{_≡_};
+ghost use mathlib.Core.Bool.{true, false};
+ghost use mathlib.Core.List.{[]};
+ghost use Prim.Native.Nat.{_≤_};
+ghost use lib.ListN.{length, take, drop};
+ghost use Rattle.groups.specs.Key.{isOriginator, zeros, sameKey, keepsKey, keyOf, noKey, namedOf};
+use crate::Key;
+use crate::Named;
+
+// The first n bytes, or all where there are fewer.
+pub(crate) fn part(a: &[u8], n: usize) -> &[u8]
+    ensures { λ r. ⌜ now r ≡ take n (now (a .entry)) ⌝ }
+{
+    if a.len() < n {
+        return a;
+    }
+    &a[0..n]
+}
+
+// Whether the bytes from n on are all zero.
+fn zero_from(s: &[u8], n: usize) -> bool
+    ensures { λ r. ⌜ r ≡ zeros (drop n (now (s .entry))) ⌝ }
+{
+    let mut i = n;
+    while i < s.len() {
+        if s[i] != 0 {
+            return false;
+        }
+        i += 1;
+    }
+    true
+}
+
+// No group's key: all zero.
+pub(crate) fn no_key() -> Key
+    ensures { λ r. ⌜ r ≡ noKey ⌝ }
+{
+    Key {
+        has_originator: false,
+        originator: [0u8; 12],
+        originator_len: 0,
+        master: 0,
+    }
+}
+
+// A refusal of the names that a call is given.
+fn unnamed(n: u8) -> Named
+    ensures { λ r. ⌜ r ≡ record { refusal = n; key = noKey } ⌝ }
+{
+    let key = no_key();
+    Named {
+        refusal: n,
+        key: key,
+    }
+}
+
+fn key_of(originator: &[u8], master: u32) -> Key
+    requires { ⌜ length (now originator) ≤ 12 ⌝ }
+    ensures { λ r. ⌜ r ≡ keyOf true (now (originator .entry)) master ⌝ }
+{
+    let mut a = [0u8; 12];
+    octets::copy_at(originator, &mut a, 0);
+    Key {
+        has_originator: true,
+        originator: a,
+        originator_len: originator.len(),
+        master: master,
+    }
+}
+
+// The key with an originator: 8, then 17.
+pub(crate) fn present(originator: &[u8], master: u32) -> Named
+    ensures { λ r. ⌜ r ≡ namedOf true (now (originator .entry)) master ⌝ }
+{
+    if !callsigns::is_callsign(originator) {
+        return unnamed(refusals::NO_CALLSIGN);
+    }
+    if master >= 268435456 {
+        return unnamed(refusals::FRAGMENT_MALFORMED);
+    }
+    let key = key_of(originator, master);
+    Named {
+        refusal: 0,
+        key: key,
+    }
+}
+
+// The key without an originator: 17.
+pub(crate) fn absent(master: u32) -> Named
+    ensures { λ r. ⌜ r ≡ namedOf false [] master ⌝ }
+{
+    if master >= 268435456 {
+        return unnamed(refusals::FRAGMENT_MALFORMED);
+    }
+    let key = Key {
+        has_originator: false,
+        originator: [0u8; 12],
+        originator_len: 0,
+        master: master,
+    };
+    Named {
+        refusal: 0,
+        key: key,
+    }
+}
+
+// Whether two keys are equal.
+pub(crate) fn same(a: Key, b: Key) -> bool
+    ensures { λ r. ⌜ r ≡ sameKey a b ⌝ }
+{
+    if a.master != b.master {
+        return false;
+    }
+    if a.has_originator {
+        if !b.has_originator {
+            return false;
+        }
+        let n = a.originator_len;
+        let m = b.originator_len;
+        return callsigns::same_call(part(&a.originator, n), part(&b.originator, m));
+    }
+    if b.has_originator {
+        return false;
+    }
+    true
+}
+
+// Whether a key keeps its rules (40).
+pub(crate) fn keeps(k: Key) -> bool
+    ensures { λ r. ⌜ r ≡ keepsKey k ⌝ }
+{
+    let n = k.originator_len;
+    if n > 12 {
+        return false;
+    }
+    if !is_originator(k.has_originator, part(&k.originator, n)) {
+        return false;
+    }
+    if !zero_from(&k.originator, n) {
+        return false;
+    }
+    k.master < 268435456
+}
+
+// Whether a text is an originator, or an absent one's.
+fn is_originator(has: bool, s: &[u8]) -> bool
+    ensures { λ r. ⌜ r ≡ isOriginator has (now (s .entry)) ⌝ }
+{
+    if has {
+        return callsigns::is_callsign(s);
+    }
+    s.len() == 0
+}
