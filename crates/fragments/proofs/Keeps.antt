@@ -11,15 +11,15 @@ use Rattle.octets.proofs.Tests.{if-yes, and-left, and-right, and-both, and-next
 use Rattle.refusals.specs.Numbers.{noCallsign, fragmentMalformed, stateBroken}
 use Rattle.callsigns.specs.Callsign.{callsign}
 use Rattle.callsigns.proofs.Lengths.{callsign-short}
-use Rattle.groups.specs.declared.Key.{Key}
-use Rattle.groups.specs.declared.Named.{Named}
+use Rattle.groupkeys.specs.declared.Key.{Key}
+use Rattle.groupkeys.specs.declared.Named.{Named}
 use Rattle.groups.specs.declared.Piece.{Piece}
 use Rattle.groups.specs.declared.Group.{Group}
 use Rattle.groups.specs.declared.Groups.{Groups}
-use Rattle.groups.specs.Key.{sameKey, isOriginator, isMaster, given, keyOf, noKey, keepsKey, namedOf}
+use Rattle.groupkeys.specs.Key.{sameKey, isOriginator, isMaster, given, keyOf, noKey, keepsKey, namedOf}
 use Rattle.groups.specs.Groups.{place, isHeld, freeGroup, hasKey, complete, keepsPiece, keepsPieces, keepsUse, keepsGroup, keepsGroups, twice, distinct, pastGroup, groupAt, withGroup, empty}
-use Rattle.groups.proofs.Names.{key-keeps}
-use Rattle.groups.proofs.SameKey.{sameKey-sym}
+use Rattle.groupkeys.proofs.Names.{key-keeps}
+use Rattle.groupkeys.proofs.SameKey.{sameKey-sym}
 use Rattle.fragments.specs.declared.Fragment.{Fragment}
 use Rattle.fragments.specs.declared.Chosen.{Chosen}
 use Rattle.fragments.specs.Answer.{Outcome, swept, refuse}

@@ -9,7 +9,7 @@ use lib.ListN.{length, getD}
 use borrow.Author.Tests.{ltb-false, eqb-true}
 use Rattle.octets.specs.Words.{if_then_else_, _or_, no, some, _<?_, _=?_}
 use Rattle.refusals.specs.Numbers.{otherTotal, fragmentHeld}
-use Rattle.groups.specs.declared.Named.{Named}
+use Rattle.groupkeys.specs.declared.Named.{Named}
 use Rattle.groups.specs.declared.Group.{Group}
 use Rattle.groups.specs.declared.Groups.{Groups}
 use Rattle.groups.specs.declared.Found.{Found}

@@ -5,7 +5,7 @@ use native.Mathlib.Omega.{arith}
 use lib.ListN.{getD}
 use lib.Seq.{getD-set-other}
 use mathlib.Core.List.{List}
-use Rattle.groups.specs.declared.Named.{Named}
+use Rattle.groupkeys.specs.declared.Named.{Named}
 use Rattle.groups.specs.declared.Group.{Group}
 use Rattle.groups.specs.declared.Groups.{Groups}
 use Rattle.groups.specs.Groups.{pastGroup, groupAt}

@@ -10,13 +10,13 @@ use Rattle.octets.specs.Words.{if_then_else_, _and_, no, every, between, _<?_, 
 use Rattle.octets.proofs.Tests.{if-yes, if-no, and-left, and-right, inside-low, inside-high, no-true, no-false}
 use Rattle.octets.proofs.Lists.{every-at}
 use Rattle.refusals.specs.Numbers.{stateBroken, storeLength, fragmentMalformed, notComplete, bufferTooShort}
-use Rattle.groups.specs.declared.Key.{Key}
-use Rattle.groups.specs.declared.Named.{Named}
+use Rattle.groupkeys.specs.declared.Key.{Key}
+use Rattle.groupkeys.specs.declared.Named.{Named}
 use Rattle.groups.specs.declared.Group.{Group}
 use Rattle.groups.specs.declared.Groups.{Groups}
 use Rattle.groups.specs.declared.Found.{Found}
 use Rattle.groups.specs.Groups.{place, storeSize, freeGroup, isFree, hasKey, complete, joinedLength, keepsPieces, keepsGroup, keepsGroups, distinct, first, pastGroup, groupAt, withGroup}
-use Rattle.groups.specs.Key.{keepsKey}
+use Rattle.groupkeys.specs.Key.{keepsKey}
 use Rattle.groups.proofs.Search.{first-bound}
 use Rattle.fragments.specs.declared.Fragment.{Fragment}
 use Rattle.fragments.specs.declared.Chosen.{Chosen}

@@ -5,8 +5,8 @@ use mathlib.Core.List.{map}
 use lib.ListN.{length, getD, set, replicate}
 use Rattle.octets.specs.Words.{if_then_else_, _and_, no, between, _<?_, _≤?_, _=?_}
 use Rattle.refusals.specs.Numbers.{stateBroken, storeLength, fragmentMalformed, otherTotal, fragmentHeld, noFreeGroup, notComplete, bufferTooShort}
-use Rattle.groups.specs.declared.Key.{Key}
-use Rattle.groups.specs.declared.Named.{Named}
+use Rattle.groupkeys.specs.declared.Key.{Key}
+use Rattle.groupkeys.specs.declared.Named.{Named}
 use Rattle.groups.specs.declared.Group.{Group}
 use Rattle.groups.specs.declared.Groups.{Groups}
 use Rattle.groups.specs.declared.Found.{Found}

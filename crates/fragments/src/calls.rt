@@ -9,11 +9,11 @@ use crate::Answer;
 use crate::Chosen;
 use crate::Fragment;
 use crate::Served;
+use groupkeys::Key;
+use groupkeys::Named;
 use groups::Found;
 use groups::Group;
 use groups::Groups;
-use groups::Key;
-use groups::Named;
 use groups::Piece;
 
 // The tests that every call on a key makes first: the number of a refusal, 0 where there is none.

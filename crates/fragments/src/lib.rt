@@ -2,7 +2,7 @@
 // The groups go in by value and come back in the answer; the store is lent, and a refusal leaves both as they were.
 ghost use mathlib.Core.Path.{_≡_};
 ghost use lib.ListN.{length};
-ghost use Rattle.groups.specs.Key.{namedOf};
+ghost use Rattle.groupkeys.specs.Key.{namedOf};
 ghost use Rattle.fragments.specs.Answer.{says, standingSays};
 ghost use Rattle.fragments.specs.Calls.{add, sweep, chosen, collected, standing};
 ghost use Rattle.fragments.specs.Store.{storeAfter, outAfter};
@@ -60,7 +60,7 @@ pub fn add_fragment(
 ) -> Served
     ensures { λ r. ⌜ (says r ≡ add groups (length (now (store .entry))) (namedOf «has_originator» (now (originator .entry)) master) (record { number = number; total = total; len = length (now (bytes .entry)); time = time })) × (now (store .exit) ≡ storeAfter (says r .answer) number (now (bytes .entry)) (now (store .entry))) ⌝ }
 {
-    let named = groups::name(has_originator, originator, master);
+    let named = groupkeys::name(has_originator, originator, master);
     let f = Fragment {
         number: number,
         total: total,
@@ -91,7 +91,7 @@ pub fn collect_group(
 ) -> Served
     ensures { λ r. ⌜ (says r ≡ collected groups (chosen groups (length (now (store .entry))) (namedOf «has_originator» (now (originator .entry)) master) (length (now (out .entry))))) × (now (out .exit) ≡ outAfter groups (now (store .entry)) (chosen groups (length (now (store .entry))) (namedOf «has_originator» (now (originator .entry)) master) (length (now (out .entry)))) (now (out .entry))) ⌝ }
 {
-    let named = groups::name(has_originator, originator, master);
+    let named = groupkeys::name(has_originator, originator, master);
     let c = calls::choose(groups, store.len(), named, out.len());
     match c {
         Chosen::Refused(n) => calls::refused(n, groups),

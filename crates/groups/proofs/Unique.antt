@@ -9,8 +9,6 @@ use Rattle.groups.proofs.Groups.find.Kinds as find-kinds
 use Rattle.groups.proofs.Groups.find.Reads as find-reads
 use Rattle.groups.proofs.Groups.find_free.Kinds as find-free-kinds
 use Rattle.groups.proofs.Groups.find_free.Reads as find-free-reads
-use Rattle.groups.proofs.name.Kinds as name-kinds
-use Rattle.groups.proofs.name.Reads as name-reads
 use Rattle.groups.proofs.free_group.Kinds as free-group-kinds
 use Rattle.groups.proofs.free_group.Reads as free-group-reads
 use Rattle.groups.proofs.is_complete.Kinds as is-complete-kinds
@@ -41,12 +39,6 @@ find-free-one κs a x y v w p q = (p ∙ sym q, refl)
 
 pub find-free-free : Free 0 find-free-kinds.ps find-free-reads.Pre
 find-free-free κs a = tt
-
-pub name-one : One 1 name-kinds.ps name-kinds.r name-reads.Post
-name-one κs a x y v w p q = (p ∙ sym q, refl)
-
-pub name-free : Free 1 name-kinds.ps name-reads.Pre
-name-free κs a = tt
 
 pub free-group-one : One 0 free-group-kinds.ps free-group-kinds.r free-group-reads.Post
 free-group-one κs a x y v w p q = (p ∙ sym q, refl)

@@ -4,12 +4,12 @@ use mathlib.Core.Bool.{Bool, true, false}
 use mathlib.Core.List.{List, [], _∷_}
 use lib.ListN.{length, take, replicate, getD, set}
 use Rattle.octets.specs.Words.{if_then_else_, _and_, no, every, some, between, _<?_, _≤?_, _=?_}
-use Rattle.groups.specs.declared.Key.{Key}
+use Rattle.groupkeys.specs.declared.Key.{Key}
 use Rattle.groups.specs.declared.Piece.{Piece}
 use Rattle.groups.specs.declared.Group.{Group}
 use Rattle.groups.specs.declared.Groups.{Groups}
 use Rattle.groups.specs.declared.Found.{Found}
-use Rattle.groups.specs.Key.{sameKey, keepsKey, noKey}
+use Rattle.groupkeys.specs.Key.{sameKey, keepsKey, noKey}
 
 -- THE SIZE of a place, and of the store: 4 groups of 16 places
 abbrev pub place : ℕ

@@ -1,3 +1,2 @@
 -- Document 01, "Fragments": the groups of the house store.
-pub mod Key
 pub mod Groups

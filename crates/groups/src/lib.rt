@@ -1,31 +1,17 @@
 // Document 01, "Fragments": the four groups of the house store, their keys, and the rules that they keep (40).
 // The state is here, by value; the bytes of the fragments lie in the store, which the host lends.
 ghost use mathlib.Core.Path.{_≡_};
-ghost use Rattle.groups.specs.Key.{namedOf};
 ghost use Rattle.groups.specs.Groups.{freeGroup, empty, keepsGroups, hasKey, isFree, first, complete, joinedLength};
 
-mod parts;
 mod rules;
+
+use groupkeys::Key;
 
 // A place's size in bytes.
 pub const PLACE: usize = 1024;
 
 // The store's size in bytes: 4 groups of 16 places.
 pub const STORE: usize = 64 * PLACE;
-
-// A group's key: its originator, which may be absent, and its master id. The originator stands in the front of its array; the bytes past it are zero.
-pub struct Key {
-    pub has_originator: bool,
-    pub originator: [u8; 12],
-    pub originator_len: usize,
-    pub master: u32,
-}
-
-// A key, or the number of a refusal, which is 0 where there is a key.
-pub struct Named {
-    pub refusal: u8,
-    pub key: Key,
-}
 
 // Whether a fragment is held, and how long it is.
 pub struct Piece {
@@ -102,21 +88,11 @@ impl Groups {
     }
 }
 
-// The key of the originator, where there is one, and the master id that a call is given.
-pub fn name(has_originator: bool, originator: &[u8], master: u32) -> Named
-    ensures { λ r. ⌜ r ≡ namedOf «has_originator» (now (originator .entry)) master ⌝ }
-{
-    if has_originator {
-        return parts::present(originator, master);
-    }
-    parts::absent(master)
-}
-
 // A free group.
 pub fn free_group() -> Group
     ensures { λ r. ⌜ r ≡ freeGroup ⌝ }
 {
-    let key = parts::no_key();
+    let key = groupkeys::no_key();
     let none = Piece {
         held: false,
         len: 0,

@@ -6,9 +6,8 @@ ghost use Rattle.octets.specs.Words.{every, some};
 ghost use Rattle.groups.specs.Groups.{isHeld, hasKey, keepsPiece, keepsPieces, keepsUse, keepsGroup, twice, distinct};
 use crate::Group;
 use crate::Groups;
-use crate::Key;
 use crate::Piece;
-use crate::parts;
+use groupkeys::Key;
 
 pub(crate) fn wide(x: u16) -> usize
     ensures { λ r. ⌜ (r ≡ x) × (r < 65536) ⌝ }
@@ -23,7 +22,7 @@ pub(crate) fn has_key(key: Key, x: Group) -> bool
         return false;
     }
     let other = x.key;
-    parts::same(key, other)
+    groupkeys::same(key, other)
 }
 
 fn keeps_piece(total: usize, n: usize, p: Piece) -> bool
@@ -100,7 +99,7 @@ fn keeps_group(x: Group) -> bool
         return false;
     }
     let key = x.key;
-    if !parts::keeps(key) {
+    if !groupkeys::keeps(key) {
         return false;
     }
     keeps_use(x)

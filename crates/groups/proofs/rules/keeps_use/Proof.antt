@@ -4,7 +4,7 @@ use borrow.Author.Needs.{needs}
 use borrow.Author.Tests.{eq-eqb, ne-eqb}
 use Rattle.octets.specs.Words.{_and_}
 use Rattle.octets.proofs.Tests.{if-yes, if-no, and-next, and-not-left, no-true, no-false, inside, below, above}
-use Rattle.groups.specs.Key.{zeros}
+use Rattle.groupkeys.specs.Key.{zeros}
 use Rattle.groups.proofs.rules.keeps_use.Statement.{statement}
 use Rattle.groups.proofs.rules.keeps_use.Tie as tie
 

@@ -11,8 +11,8 @@ use Rattle.octets.specs.Words.{_and_, no, every, _≤?_, _=?_}
 use Rattle.octets.specs.Bytes.{front, placed}
 use Rattle.octets.proofs.Tests.{and-both}
 use Rattle.octets.proofs.Lists.{placed-in}
-use Rattle.groups.specs.declared.Key.{Key}
-use Rattle.groups.specs.Key.{originatorOf, isOriginator, isMaster, zeros, keepsKey, keyOf}
+use Rattle.groupkeys.specs.declared.Key.{Key}
+use Rattle.groupkeys.specs.Key.{originatorOf, isOriginator, isMaster, zeros, keepsKey, keyOf}
 
 -- the code's key is that of its originator and master id
 pub key-is : (o a : List ℕ) (master : ℕ) → a ≡ placed o 0 (replicate 12 0) → length o ≤ 12

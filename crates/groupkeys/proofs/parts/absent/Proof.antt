@@ -4,9 +4,9 @@ use borrow.Author.Needs.{needs}
 use borrow.Author.Tests.{lt-ltb, le-ltb}
 use Rattle.octets.specs.Words.{if_then_else_}
 use Rattle.octets.proofs.Tests.{if-yes, if-no, no-true, no-false}
-use Rattle.groups.specs.Key.{keyOf, namedOf}
-use Rattle.groups.proofs.parts.absent.Statement.{statement}
-use Rattle.groups.proofs.parts.absent.Tie as tie
+use Rattle.groupkeys.specs.Key.{keyOf, namedOf}
+use Rattle.groupkeys.proofs.parts.absent.Statement.{statement}
+use Rattle.groupkeys.proofs.parts.absent.Tie as tie
 
 returns : tie.Need-returns
 unfolding namedOf keyOf

@@ -1,8 +1,8 @@
 -- A refusal names no key.
 use borrow.Author.Needs.{needs}
 use Rattle.octets.specs.Words.{no}
-use Rattle.groups.proofs.parts.unnamed.Statement.{statement}
-use Rattle.groups.proofs.parts.unnamed.Tie as tie
+use Rattle.groupkeys.proofs.parts.unnamed.Statement.{statement}
+use Rattle.groupkeys.proofs.parts.unnamed.Tie as tie
 
 returns : tie.Need-returns
 returns c = rw (c .no-key .ensures)

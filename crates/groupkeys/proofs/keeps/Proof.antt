@@ -6,9 +6,9 @@ use borrow.Author.Tests.{le-leb, lt-leb, eq-eqb, not-true, not-false}
 use lib.ListN.{length}
 use Rattle.octets.specs.Words.{_=?_}
 use Rattle.octets.proofs.Tests.{and-next, and-not-left}
-use Rattle.groups.specs.Key.{isOriginator, keepsKey}
-use Rattle.groups.proofs.parts.keeps.Statement.{statement}
-use Rattle.groups.proofs.parts.keeps.Tie as tie
+use Rattle.groupkeys.specs.Key.{isOriginator, keepsKey}
+use Rattle.groupkeys.proofs.keeps.Statement.{statement}
+use Rattle.groupkeys.proofs.keeps.Tie as tie
 
 long : (c : tie.Start) → (length (c .args .t1 .originator) =? 12) ≡ true
 long c = let a : length (c .args .t1 .originator) ≡ 12 = search needs in eq-eqb _ _ a

@@ -5,9 +5,9 @@ use borrow.Author.Tests.{lt-ltb, le-ltb, not-true, not-false}
 use Rattle.octets.specs.Words.{if_then_else_}
 use Rattle.octets.proofs.Tests.{if-yes, if-no, no-true, no-false}
 use Rattle.callsigns.proofs.Lengths.{callsign-short}
-use Rattle.groups.specs.Key.{namedOf}
-use Rattle.groups.proofs.parts.present.Statement.{statement}
-use Rattle.groups.proofs.parts.present.Tie as tie
+use Rattle.groupkeys.specs.Key.{namedOf}
+use Rattle.groupkeys.proofs.parts.present.Statement.{statement}
+use Rattle.groupkeys.proofs.parts.present.Tie as tie
 
 returns : tie.Need-returns
 unfolding namedOf

@@ -1,10 +1,10 @@
-// A group's key and its parts.
+// The parts of a group's key.
 ghost use mathlib.Core.Path.{_≡_};
 ghost use mathlib.Core.Bool.{true, false};
 ghost use mathlib.Core.List.{[]};
 ghost use Prim.Native.Nat.{_≤_};
 ghost use lib.ListN.{length, take, drop};
-ghost use Rattle.groups.specs.Key.{isOriginator, zeros, sameKey, keepsKey, keyOf, noKey, namedOf};
+ghost use Rattle.groupkeys.specs.Key.{isOriginator, zeros, keyOf, noKey, namedOf};
 use crate::Key;
 use crate::Named;
 
@@ -19,7 +19,7 @@ pub(crate) fn part(a: &[u8], n: usize) -> &[u8]
 }
 
 // Whether the bytes from n on are all zero.
-fn zero_from(s: &[u8], n: usize) -> bool
+pub(crate) fn zero_from(s: &[u8], n: usize) -> bool
     ensures { λ r. ⌜ r ≡ zeros (drop n (now (s .entry))) ⌝ }
 {
     let mut i = n;
@@ -32,23 +32,11 @@ fn zero_from(s: &[u8], n: usize) -> bool
     true
 }
 
-// No group's key: all zero.
-pub(crate) fn no_key() -> Key
-    ensures { λ r. ⌜ r ≡ noKey ⌝ }
-{
-    Key {
-        has_originator: false,
-        originator: [0u8; 12],
-        originator_len: 0,
-        master: 0,
-    }
-}
-
 // A refusal of the names that a call is given.
 fn unnamed(n: u8) -> Named
     ensures { λ r. ⌜ r ≡ record { refusal = n; key = noKey } ⌝ }
 {
-    let key = no_key();
+    let key = crate::no_key();
     Named {
         refusal: n,
         key: key,
@@ -105,46 +93,8 @@ pub(crate) fn absent(master: u32) -> Named
     }
 }
 
-// Whether two keys are equal.
-pub(crate) fn same(a: Key, b: Key) -> bool
-    ensures { λ r. ⌜ r ≡ sameKey a b ⌝ }
-{
-    if a.master != b.master {
-        return false;
-    }
-    if a.has_originator {
-        if !b.has_originator {
-            return false;
-        }
-        let n = a.originator_len;
-        let m = b.originator_len;
-        return callsigns::same_call(part(&a.originator, n), part(&b.originator, m));
-    }
-    if b.has_originator {
-        return false;
-    }
-    true
-}
-
-// Whether a key keeps its rules (40).
-pub(crate) fn keeps(k: Key) -> bool
-    ensures { λ r. ⌜ r ≡ keepsKey k ⌝ }
-{
-    let n = k.originator_len;
-    if n > 12 {
-        return false;
-    }
-    if !is_originator(k.has_originator, part(&k.originator, n)) {
-        return false;
-    }
-    if !zero_from(&k.originator, n) {
-        return false;
-    }
-    k.master < 268435456
-}
-
 // Whether a text is an originator, or an absent one's.
-fn is_originator(has: bool, s: &[u8]) -> bool
+pub(crate) fn is_originator(has: bool, s: &[u8]) -> bool
     ensures { λ r. ⌜ r ≡ isOriginator has (now (s .entry)) ⌝ }
 {
     if has {

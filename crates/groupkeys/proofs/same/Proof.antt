@@ -4,10 +4,10 @@ use borrow.Author.Needs.{needs}
 use borrow.Author.Tests.{ne-eqb, not-true, not-false}
 use Rattle.octets.specs.Words.{if_then_else_}
 use Rattle.octets.proofs.Tests.{and-not-left, no-true, no-false}
-use Rattle.groups.specs.Key.{sameKey}
-use Rattle.groups.proofs.SameKey.{by-absent, by-one, by-calls}
-use Rattle.groups.proofs.parts.same.Statement.{statement}
-use Rattle.groups.proofs.parts.same.Tie as tie
+use Rattle.groupkeys.specs.Key.{sameKey}
+use Rattle.groupkeys.proofs.SameKey.{by-absent, by-one, by-calls}
+use Rattle.groupkeys.proofs.same.Statement.{statement}
+use Rattle.groupkeys.proofs.same.Tie as tie
 
 returns : tie.Need-returns
 unfolding sameKey

@@ -1,9 +1,9 @@
 -- The originator stands in the front of zeros.
 use borrow.Author.Needs.{needs}
-use Rattle.groups.specs.Key.{zeros}
-use Rattle.groups.proofs.Names.{key-is}
-use Rattle.groups.proofs.parts.key_of.Statement.{statement}
-use Rattle.groups.proofs.parts.key_of.Tie as tie
+use Rattle.groupkeys.specs.Key.{zeros}
+use Rattle.groupkeys.proofs.Names.{key-is}
+use Rattle.groupkeys.proofs.parts.key_of.Statement.{statement}
+use Rattle.groupkeys.proofs.parts.key_of.Tie as tie
 
 returns : tie.Need-returns
 returns c =

@@ -7,8 +7,8 @@ use Rattle.octets.specs.Words.{if_then_else_, _and_, no, every, _<?_, _≤?_, _
 use Rattle.octets.specs.Bytes.{front}
 use Rattle.refusals.specs.Numbers.{noCallsign, fragmentMalformed}
 use Rattle.callsigns.specs.Callsign.{callsign, sameCall}
-use Rattle.groups.specs.declared.Key.{Key}
-use Rattle.groups.specs.declared.Named.{Named}
+use Rattle.groupkeys.specs.declared.Key.{Key}
+use Rattle.groupkeys.specs.declared.Named.{Named}
 
 -- the originator that a key holds
 abbrev pub originatorOf : Key → List ℕ

@@ -8,8 +8,8 @@ use Rattle.octets.specs.Words.{if_then_else_, _and_, no, _=?_}
 use Rattle.octets.proofs.Tests.{and-left, and-right, and-both, and-next, and-not-left, if-yes, if-no, true-not-false}
 use Rattle.callsigns.specs.Callsign.{sameCall}
 use Rattle.callsigns.proofs.SameCall.{sameCall-refl, sameCall-sym, sameCall-trans}
-use Rattle.groups.specs.declared.Key.{Key}
-use Rattle.groups.specs.Key.{originatorOf, sameOriginator, sameKey}
+use Rattle.groupkeys.specs.declared.Key.{Key}
+use Rattle.groupkeys.specs.Key.{originatorOf, sameOriginator, sameKey}
 
 -- two texts, each there or absent, are equal
 abbrev both : Bool → Bool → List ℕ → List ℕ → Bool

@@ -4,9 +4,8 @@ use native.Mathlib.Omega.{arith}
 use native.Mathlib.Nat.{sub-zero}
 use borrow.Author.Needs.{needs}
 use lib.Seq.{take-all}
-use Rattle.groups.specs.Groups.{first}
-use Rattle.groups.proofs.parts.part.Statement.{statement}
-use Rattle.groups.proofs.parts.part.Tie as tie
+use Rattle.groupkeys.proofs.parts.part.Statement.{statement}
+use Rattle.groupkeys.proofs.parts.part.Tie as tie
 
 returns : tie.Need-returns
 returns c =

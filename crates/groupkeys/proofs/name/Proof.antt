@@ -2,9 +2,9 @@
 use mathlib.Core.Path.{sym, ap, _∙_}
 use mathlib.Core.Bool.{Bool}
 use borrow.Author.Needs.{needs}
-use Rattle.groups.specs.Key.{namedOf}
-use Rattle.groups.proofs.name.Statement.{statement}
-use Rattle.groups.proofs.name.Tie as tie
+use Rattle.groupkeys.specs.Key.{namedOf}
+use Rattle.groupkeys.proofs.name.Statement.{statement}
+use Rattle.groupkeys.proofs.name.Tie as tie
 
 returns : tie.Need-returns
 returns c =

@@ -4,8 +4,8 @@ use borrow.Author.Needs.{needs}
 use Rattle.octets.specs.Words.{no}
 use Rattle.octets.proofs.Tests.{if-yes, if-no}
 use Rattle.callsigns.specs.Callsign.{callsign}
-use Rattle.groups.proofs.parts.is_originator.Statement.{statement}
-use Rattle.groups.proofs.parts.is_originator.Tie as tie
+use Rattle.groupkeys.proofs.parts.is_originator.Statement.{statement}
+use Rattle.groupkeys.proofs.parts.is_originator.Tie as tie
 
 returns : tie.Need-returns
 returns c = c .is-callsign .ensures ∙ sym (if-yes _ _ _ (c .before .if1 .taken))

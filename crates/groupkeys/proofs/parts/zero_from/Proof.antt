@@ -7,10 +7,10 @@ use borrow.Author.Tests.{eq-eqb, ne-eqb}
 use lib.ListN.{length, drop}
 use Rattle.octets.specs.Words.{_=?_}
 use Rattle.octets.proofs.Lists.{every-next, every-not}
-use Rattle.groups.specs.Key.{zeros}
-use Rattle.groups.proofs.Names.{zero-past}
-use Rattle.groups.proofs.parts.zero_from.Statement.{statement}
-use Rattle.groups.proofs.parts.zero_from.Tie as tie
+use Rattle.groupkeys.specs.Key.{zeros}
+use Rattle.groupkeys.proofs.Names.{zero-past}
+use Rattle.groupkeys.proofs.parts.zero_from.Statement.{statement}
+use Rattle.groupkeys.proofs.parts.zero_from.Tie as tie
 
 abbrev Inv-loop : tie.InvT-loop
 Inv-loop s n i₀ i = zeros (drop n s) ≡ zeros (drop i s)

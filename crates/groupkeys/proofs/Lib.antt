@@ -1,0 +1,4 @@
+-- Laws of a group's key.
+pub mod Names
+pub mod SameKey
+pub mod Unique

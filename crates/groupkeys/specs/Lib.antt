@@ -1,0 +1,2 @@
+-- Document 01, "Fragments": a group's key.
+pub mod Key
