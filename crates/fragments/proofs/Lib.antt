@@ -1,7 +1,3 @@
--- Laws of the calls on the house store.
-pub mod Tests
+-- Laws of the store.
 pub mod Joins
-pub mod Moves
 pub mod Unique
-pub mod Others
-pub mod Keeps

@@ -7,8 +7,7 @@ use Rattle.groups.specs.declared.Piece.{Piece}
 use Rattle.groups.specs.declared.Group.{Group}
 use Rattle.groups.specs.declared.Groups.{Groups}
 use Rattle.groups.specs.Groups.{place, fragments, groupAt}
-use Rattle.fragments.specs.declared.Chosen.{Chosen}
-use Rattle.fragments.specs.Answer.{Said, added, collected, swept, refused}
+use Rattle.groupcalls.specs.Answer.{Said, added, collected, swept, refused}
 
 -- where fragment N of group g begins
 abbrev pub placeOf : ℕ → ℕ → ℕ
@@ -17,7 +16,7 @@ placeOf g number = (16 * g + number - 1) * place
 -- the store after an add: the fragment's bytes at its place, and all else as it was
 abbrev pub storeAfter : Said → ℕ → List ℕ → List ℕ → List ℕ
 storeAfter (added g) number bytes store = placed bytes (placeOf g number) store
-storeAfter (collected n) number bytes store = store
+storeAfter (collected g n) number bytes store = store
 storeAfter swept number bytes store = store
 storeAfter (refused n) number bytes store = store
 
@@ -35,6 +34,8 @@ abbrev pub joined : List ℕ → ℕ → Group → List ℕ
 joined store g x = joinedFrom store g 0 (fragments x)
 
 -- the lent buffer after a collect: what is joined stands at its front
-abbrev pub outAfter : Groups → List ℕ → Chosen → List ℕ → List ℕ
-outAfter t store (Chosen.Refused n) out = out
-outAfter t store (Chosen.At g) out = front (joined store g (groupAt t g)) out
+abbrev pub outAfter : Said → Groups → List ℕ → List ℕ → List ℕ
+outAfter (collected g n) t store out = front (joined store g (groupAt t g)) out
+outAfter (added g) t store out = out
+outAfter swept t store out = out
+outAfter (refused n) t store out = out

@@ -15,16 +15,16 @@ fn wide(x: u16) -> usize
 }
 
 // Writes the fragments 1 to M of group g, which is x, to the front of `out`.
-pub(crate) fn join(x: Group, g: usize, store: &[u8], out: &mut [u8]) -> usize
+pub(crate) fn join(x: Group, g: usize, store: &[u8], out: &mut [u8])
     requires { ⌜ (g < 4) × (length (now store) ≡ storeSize) × (keepsPieces (x .total) 0 (x .pieces) ≡ true) × (joinedLength x ≤ length (now out)) ⌝ }
-    ensures { λ r. ⌜ (r ≡ joinedLength x) × (now (out .exit) ≡ front (joined (now (store .entry)) g x) (now (out .entry))) ⌝ }
+    ensures { λ _. ⌜ now (out .exit) ≡ front (joined (now (store .entry)) g x) (now (out .entry)) ⌝ }
 {
     let total = x.total;
     let mut at: usize = 0;
     let mut i: usize = 0;
     while i < 16 {
         if i >= total {
-            return at;
+            return;
         }
         let p = x.pieces[i];
         let len = wide(p.len);
@@ -33,5 +33,4 @@ pub(crate) fn join(x: Group, g: usize, store: &[u8], out: &mut [u8]) -> usize
         at += len;
         i += 1;
     }
-    at
 }

@@ -3,12 +3,10 @@ use mathlib.Core.Path.{sym, ap, _∙_}
 use native.Mathlib.Omega.{arith}
 use borrow.Author.Needs.{needs}
 use Rattle.octets.specs.Words.{_and_}
-use Rattle.fragments.specs.Answer.{saying}
-use Rattle.fragments.specs.Calls.{add}
+use Rattle.groupcalls.specs.Answer.{saying}
 use Rattle.fragments.specs.Store.{storeAfter}
-use Rattle.fragments.specs.declared.Answer.{Answer}
-use Rattle.fragments.proofs.Moves.{added-at}
-use Rattle.fragments.proofs.Tests.{add-named}
+use Rattle.groupcalls.specs.declared.Answer.{Answer}
+use Rattle.groupcalls.proofs.Moves.{added-at}
 use Rattle.fragments.proofs.add_fragment.Statement.{statement}
 use Rattle.fragments.proofs.add_fragment.Tie as tie
 
@@ -39,38 +37,33 @@ mul-copy-at-2 c =
 returns : tie.Need-returns
 returns c =
     let at-add = c .before .before .before .before .before .before .before .add in
-    let at-name = c .before .before .before .before .before .before .before .before .name in
     let at-copy-at = c .before .before .copy-at in
-    let at-args = c .before .before .before .before .before .before .before .before .before .before .before .before .args in
+    let at-args = c .before .before .before .before .before .before .before .before .before .before .before .args in
     let at-answer = c .before .before .before .before .before .answer in
-    (at-add .ensures ∙ add-named _ _ _ _ _ (at-name .ensures), at-copy-at .ensures .1 ∙ ap (λ (a : Answer). storeAfter (saying a) (at-args .number) (at-args .bytes .now) (at-args .store .now)) (sym (at-answer .given .1)))
+    (at-add .ensures, at-copy-at .ensures .1 ∙ ap (λ (a : Answer). storeAfter (saying a) (at-args .number) (at-args .bytes .now) (at-args .store .now)) (sym (at-answer .given .1)))
 
 returns-2 : tie.Need-returns-2
 returns-2 c =
     let at-add = c .before .before .add in
-    let at-name = c .before .before .before .name in
-    let at-args = c .before .before .before .before .before .before .before .args in
-    (at-add .ensures ∙ add-named _ _ _ _ _ (at-name .ensures), ap (λ (a : Answer). storeAfter (saying a) (at-args .number) (at-args .bytes .now) (at-args .store .now)) (sym (c .enum-told .given .1)))
+    let at-args = c .before .before .before .before .before .before .args in
+    (at-add .ensures, ap (λ (a : Answer). storeAfter (saying a) (at-args .number) (at-args .bytes .now) (at-args .store .now)) (sym (c .enum-told .given .1)))
 
 returns-3 : tie.Need-returns-3
 returns-3 c =
     let at-add = c .before .before .add in
-    let at-name = c .before .before .before .name in
-    let at-args = c .before .before .before .before .before .before .before .args in
-    (at-add .ensures ∙ add-named _ _ _ _ _ (at-name .ensures), ap (λ (a : Answer). storeAfter (saying a) (at-args .number) (at-args .bytes .now) (at-args .store .now)) (sym (c .enum-told2 .given .1)))
+    let at-args = c .before .before .before .before .before .before .args in
+    (at-add .ensures, ap (λ (a : Answer). storeAfter (saying a) (at-args .number) (at-args .bytes .now) (at-args .store .now)) (sym (c .enum-told2 .given .1)))
 
 returns-4 : tie.Need-returns-4
 returns-4 c =
     let at-add = c .before .before .add in
-    let at-name = c .before .before .before .name in
-    let at-args = c .before .before .before .before .before .before .before .args in
-    (at-add .ensures ∙ add-named _ _ _ _ _ (at-name .ensures), ap (λ (a : Answer). storeAfter (saying a) (at-args .number) (at-args .bytes .now) (at-args .store .now)) (sym (c .enum-told3 .given .1)))
+    let at-args = c .before .before .before .before .before .before .args in
+    (at-add .ensures, ap (λ (a : Answer). storeAfter (saying a) (at-args .number) (at-args .bytes .now) (at-args .store .now)) (sym (c .enum-told3 .given .1)))
 
 pub add-fragment-spec : {M : Type 1} → statement M
 add-fragment-spec =
     tie.close
     (tie.spec
-    (λ c κs. search needs)
     (λ c κs. search needs)
     (λ c. search needs)
     mul-copy-at

@@ -1,0 +1,4 @@
+-- Laws of the calls on the groups.
+pub mod Tests
+pub mod Moves
+pub mod Unique

@@ -1,0 +1,103 @@
+-- Document 01, "Fragments": the calls on the groups, with the refusals in the order of the paper's table, 40 first, then 23, and 5 last.
+use Prim.Native.Nat.{ℕ, _-_}
+use mathlib.Core.Bool.{Bool, true, false}
+use mathlib.Core.List.{map}
+use lib.ListN.{length, getD, set, replicate}
+use Rattle.octets.specs.Words.{if_then_else_, _and_, no, between, _<?_, _≤?_, _=?_}
+use Rattle.refusals.specs.Numbers.{stateBroken, storeLength, fragmentMalformed, otherTotal, fragmentHeld, noFreeGroup, notComplete, bufferTooShort}
+use Rattle.groupkeys.specs.declared.Key.{Key}
+use Rattle.groupkeys.specs.declared.Named.{Named}
+use Rattle.groups.specs.declared.Group.{Group}
+use Rattle.groups.specs.declared.Groups.{Groups}
+use Rattle.groups.specs.declared.Found.{Found}
+use Rattle.groups.specs.Groups.{place, storeSize, noPiece, freeGroup, isFree, hasKey, complete, joinedLength, keepsGroups, first, groupAt, withGroup}
+use Rattle.groupcalls.specs.declared.Fragment.{Fragment}
+use Rattle.groupcalls.specs.Answer.{added, swept, collected, Outcome, refuse, Stand, isComplete, isIncomplete, unseen}
+
+-- the tests that add and collect make first: 40, then 23, then 8 and 17 for the key (which `namedOf` gives), then 17 for N, M and the length;
+-- 0 where all are passed
+unfoldable pub gate : Groups → ℕ → Named → Bool → ℕ
+gate t size named ranged =
+    if no (keepsGroups t) then stateBroken
+    else if no (size =? storeSize) then storeLength
+    else if 0 <? named .refusal then named .refusal
+    else if no ranged then fragmentMalformed
+    else 0
+
+-- ---- add
+
+-- M 2 to 16, N 1 to M, a fragment of 0 to 1,024 bytes
+unfoldable pub inRange : Fragment → Bool
+inRange f = between 2 16 (f .total) and between 1 (f .total) (f .number) and f .len ≤? place
+
+-- the group x with the fragment held
+abbrev pub withFragment : Group → Fragment → Group
+withFragment x f =
+    record { used = x .used; key = x .key; total = x .total; began = x .began; pieces = set (x .pieces) (f .number - 1) (record { held = true; len = f .len }) }
+
+abbrev pub addTo : Groups → ℕ → Group → Fragment → Outcome
+addTo t g x f = record { answer = added g; after = withGroup t g (withFragment x f) }
+
+-- to the group that has the key: M differs (18), or the fragment is held already (19)
+abbrev pub addAt : Groups → ℕ → Fragment → Outcome
+addAt t g f =
+    if no (groupAt t g .total =? f .total) then refuse otherTotal t
+    else if getD (groupAt t g .pieces) (f .number - 1) noPiece .held then refuse fragmentHeld t
+    else addTo t g (groupAt t g) f
+
+-- a group that opens with this fragment: no fragment is held yet
+abbrev pub opened : Key → Fragment → Group
+opened k f = record { used = true; key = k; total = f .total; began = f .time; pieces = replicate 16 noPiece }
+
+-- a new group takes the lowest free one, if there is one (20)
+abbrev pub addIn : Groups → Key → Fragment → Found → Outcome
+addIn t k f (Found.At g) = addTo t g (opened k f) f
+addIn t k f Found.Nothing = refuse noFreeGroup t
+
+abbrev pub addNew : Groups → Key → Fragment → Outcome
+addNew t k f = addIn t k f (first isFree 0 (t .items))
+
+abbrev pub addBy : Groups → Key → Fragment → Found → Outcome
+addBy t k f (Found.At g) = addAt t g f
+addBy t k f Found.Nothing = addNew t k f
+
+unfoldable pub add : Groups → ℕ → Named → Fragment → Outcome
+add t size named f =
+    if 0 <? gate t size named (inRange f) then refuse (gate t size named (inRange f)) t
+    else addBy t (named .key) f (first (hasKey (named .key)) 0 (t .items))
+
+-- ---- collect
+
+-- the group that has the key: incomplete is 21, a buffer too short for all that it holds 5; else it is freed
+abbrev pub collectAt : Groups → ℕ → ℕ → Outcome
+collectAt t g room =
+    if no (complete (groupAt t g)) then refuse notComplete t
+    else if room <? joinedLength (groupAt t g) then refuse bufferTooShort t
+    else record { answer = collected g (joinedLength (groupAt t g)); after = withGroup t g freeGroup }
+
+-- an unknown key is 21
+abbrev pub collectBy : Groups → ℕ → Found → Outcome
+collectBy t room (Found.At g) = collectAt t g room
+collectBy t room Found.Nothing = refuse notComplete t
+
+unfoldable pub collect : Groups → ℕ → Named → ℕ → Outcome
+collect t size named room =
+    if 0 <? gate t size named true then refuse (gate t size named true) t
+    else collectBy t room (first (hasKey (named .key)) 0 (t .items))
+
+-- ---- sweep
+
+-- an incomplete group whose first fragment came 604,800 s ago or more is freed (by an earlier clock the difference, and so the age, is 0)
+unfoldable pub sweptGroup : ℕ → Group → Group
+sweptGroup time x = if x .used and no (complete x) and 604800 ≤? time - x .began then freeGroup else x
+
+unfoldable pub sweep : Groups → ℕ → Outcome
+sweep t time = if no (keepsGroups t) then refuse stateBroken t else record { answer = swept; after = record { items = map (sweptGroup time) (t .items) } }
+
+-- ---- what a host sees: whether a group is complete
+
+unfoldable pub standing : Groups → ℕ → Stand
+standing t g =
+    if no (keepsGroups t) then unseen stateBroken
+    else if g <? 4 and groupAt t g .used and complete (groupAt t g) then isComplete
+    else isIncomplete

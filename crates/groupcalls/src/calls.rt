@@ -1,0 +1,171 @@
+// The steps of the calls: the tests that they share, a fragment more in a group, a group freed, a group swept.
+ghost use mathlib.Core.Path.{_≡_};
+ghost use mathlib.Core.Bool.{true};
+ghost use Prim.Native.Nat.{_-_, _<_};
+ghost use Rattle.groups.specs.Groups.{withGroup};
+ghost use Rattle.groupcalls.specs.Answer.{says, refuse};
+ghost use Rattle.groupcalls.specs.Calls.{gate, inRange, addTo, addAt, addNew, collectAt, sweptGroup};
+use crate::Answer;
+use crate::Fragment;
+use crate::Served;
+use groupkeys::Key;
+use groupkeys::Named;
+use groups::Found;
+use groups::Group;
+use groups::Groups;
+use groups::Piece;
+
+// The tests that every call on a key makes first: the number of a refusal, 0 where there is none.
+pub(crate) fn gate(t: Groups, size: usize, named: Named, ranged: bool) -> u8
+    ensures { λ r. ⌜ r ≡ gate t size named ranged ⌝ }
+{
+    if !t.keep_rules() {
+        return refusals::STATE_BROKEN;
+    }
+    if size != groups::STORE {
+        return refusals::STORE_LENGTH;
+    }
+    if named.refusal > 0 {
+        return named.refusal;
+    }
+    if !ranged {
+        return refusals::FRAGMENT_MALFORMED;
+    }
+    0
+}
+
+// Whether N, M and the length are in their ranges.
+pub(crate) fn in_range(f: Fragment) -> bool
+    ensures { λ r. ⌜ r ≡ inRange f ⌝ }
+{
+    if f.total < 2 {
+        return false;
+    }
+    if f.total > 16 {
+        return false;
+    }
+    if f.number < 1 {
+        return false;
+    }
+    if f.number > f.total {
+        return false;
+    }
+    f.len <= groups::PLACE
+}
+
+pub(crate) fn refused(n: u8, t: Groups) -> Served
+    ensures { λ r. ⌜ says r ≡ refuse n t ⌝ }
+{
+    Served {
+        answer: Answer::Refused(n),
+        groups: t,
+    }
+}
+
+fn put(t: Groups, g: usize, x: Group) -> Groups
+    requires { ⌜ g < 4 ⌝ }
+    ensures { λ r. ⌜ r ≡ withGroup t g x ⌝ }
+{
+    let mut u = t;
+    u.items[g] = x;
+    u
+}
+
+// Group g of the groups is x with one fragment more.
+fn add_to(t: Groups, g: usize, x: Group, f: Fragment) -> Served
+    requires { ⌜ (g < 4) × (inRange f ≡ true) ⌝ }
+    ensures { λ r. ⌜ says r ≡ addTo t g x f ⌝ }
+{
+    let p = Piece {
+        held: true,
+        len: f.len as u16,
+    };
+    let n = f.number - 1;
+    let mut y = x;
+    y.pieces[n] = p;
+    let u = put(t, g, y);
+    Served {
+        answer: Answer::Added(g),
+        groups: u,
+    }
+}
+
+// The group of the key is there: 18, then 19.
+pub(crate) fn add_at(t: Groups, g: usize, f: Fragment) -> Served
+    requires { ⌜ (g < 4) × (inRange f ≡ true) ⌝ }
+    ensures { λ r. ⌜ says r ≡ addAt t g f ⌝ }
+{
+    let x = t.items[g];
+    if x.total != f.total {
+        return refused(refusals::OTHER_TOTAL, t);
+    }
+    let at = f.number - 1;
+    let p = x.pieces[at];
+    if p.held {
+        return refused(refusals::FRAGMENT_HELD, t);
+    }
+    add_to(t, g, x, f)
+}
+
+// The key is unknown: 20, or the lowest free group.
+pub(crate) fn add_new(t: Groups, key: Key, f: Fragment) -> Served
+    requires { ⌜ inRange f ≡ true ⌝ }
+    ensures { λ r. ⌜ says r ≡ addNew t key f ⌝ }
+{
+    let found = t.find_free();
+    let Found::At(g) = found else {
+        return refused(refusals::NO_FREE_GROUP, t);
+    };
+    let mut x = groups::free_group();
+    x.used = true;
+    x.key = key;
+    x.total = f.total;
+    x.began = f.time;
+    add_to(t, g, x, f)
+}
+
+// The group of the key is there: 21, then 5, then it is freed.
+pub(crate) fn collect_at(t: Groups, g: usize, room: usize) -> Served
+    requires { ⌜ g < 4 ⌝ }
+    ensures { λ r. ⌜ says r ≡ collectAt t g room ⌝ }
+{
+    let x = t.items[g];
+    if !groups::is_complete(x) {
+        return refused(refusals::NOT_COMPLETE, t);
+    }
+    let n = groups::joined_length(x);
+    if room < n {
+        return refused(refusals::BUFFER_TOO_SHORT, t);
+    }
+    let free = groups::free_group();
+    let after = put(t, g, free);
+    Served {
+        answer: Answer::Collected(g, n),
+        groups: after,
+    }
+}
+
+// An earlier clock means age 0.
+fn age(time: u32, began: u32) -> u32
+    ensures { λ r. ⌜ r ≡ time - began ⌝ }
+{
+    if time < began {
+        return 0;
+    }
+    time - began
+}
+
+pub(crate) fn swept(x: Group, time: u32) -> Group
+    ensures { λ r. ⌜ r ≡ sweptGroup time x ⌝ }
+{
+    if !x.used {
+        return x;
+    }
+    if groups::is_complete(x) {
+        return x;
+    }
+    if age(time, x.began) < 604800 {
+        return x;
+    }
+    groups::free_group()
+}
