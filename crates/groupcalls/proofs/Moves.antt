@@ -51,37 +51,37 @@ not-free false e = refl
 
 -- ---- the moves
 
-pub data Move (t : Groups) (named : Named) (f : Fragment) : Outcome → Type 0 where
-  refusing : (n : ℕ) → Move t named f (refuse n t)
-  joining : {g : ℕ} → Kept t → Ranged f → g < 4 → hasKey (named .key) (groupAt t g) ≡ true → groupAt t g .total ≡ f .total
-      → getD (groupAt t g .pieces) (f .number - 1) noPiece .held ≡ false → Move t named f (addTo t g (groupAt t g) f)
-  opening : {g : ℕ} → Kept t → Ranged f → g < 4 → groupAt t g .used ≡ false → some (hasKey (named .key)) (t .items) ≡ false → named .refusal ≡ 0
-      → Move t named f (addTo t g (opened (named .key) f) f)
+pub data Move (t : Groups) (size : ℕ) (named : Named) (f : Fragment) : Outcome → Type 0 where
+  refusing : (n : ℕ) → Move t size named f (refuse n t)
+  joining : {g : ℕ} → Kept t → size ≡ storeSize → Ranged f → g < 4 → hasKey (named .key) (groupAt t g) ≡ true → groupAt t g .total ≡ f .total
+      → getD (groupAt t g .pieces) (f .number - 1) noPiece .held ≡ false → Move t size named f (addTo t g (groupAt t g) f)
+  opening : {g : ℕ} → Kept t → size ≡ storeSize → Ranged f → g < 4 → groupAt t g .used ≡ false → some (hasKey (named .key)) (t .items) ≡ false → named .refusal ≡ 0
+      → Move t size named f (addTo t g (opened (named .key) f) f)
 
-pub add-moves : (t : Groups) (size : ℕ) (named : Named) (f : Fragment) → Move t named f (add t size named f)
+pub add-moves : (t : Groups) (size : ℕ) (named : Named) (f : Fragment) → Move t size named f (add t size named f)
 unfolding add
 add-moves t size named f = go (0 <? gate t size named (inRange f)) refl
   where
     bound : (p : Group → Bool) (g : ℕ) → Passed t size named (inRange f) → Found.At g ≡ first p 0 (t .items) → g < 4
     bound p g k q = omega (arith, first-bound p 0 g (t .items) q, kept t (k .keeps) .long)
 
-    into : Passed t size named (inRange f) → some (hasKey (named .key)) (t .items) ≡ false → (x : Found) → x ≡ first isFree 0 (t .items) → Move t named f (addIn t (named .key) f x)
-    into k n (Found.At g) q = opening (kept t (k .keeps)) (ranged f (k .inside)) (bound isFree g k q) (not-free _ (first-at isFree g (t .items) q)) n (k .known)
+    into : Passed t size named (inRange f) → some (hasKey (named .key)) (t .items) ≡ false → (x : Found) → x ≡ first isFree 0 (t .items) → Move t size named f (addIn t (named .key) f x)
+    into k n (Found.At g) q = opening (kept t (k .keeps)) (k .sized) (ranged f (k .inside)) (bound isFree g k q) (not-free _ (first-at isFree g (t .items) q)) n (k .known)
     into k n Found.Nothing q = refusing 20
 
     at : Passed t size named (inRange f) → (g : ℕ) → Found.At g ≡ first (hasKey (named .key)) 0 (t .items) → (a b : Bool) → (groupAt t g .total =? f .total) ≡ a
-        → getD (groupAt t g .pieces) (f .number - 1) noPiece .held ≡ b → Move t named f (if no a then refuse otherTotal t else if b then refuse fragmentHeld t else addTo t g (groupAt t g) f)
+        → getD (groupAt t g .pieces) (f .number - 1) noPiece .held ≡ b → Move t size named f (if no a then refuse otherTotal t else if b then refuse fragmentHeld t else addTo t g (groupAt t g) f)
     at k g q false b x y = refusing 18
     at k g q true true x y = refusing 19
     at k g q true false x y =
-        joining (kept t (k .keeps)) (ranged f (k .inside)) (bound (hasKey (named .key)) g k q) (first-at (hasKey (named .key)) g (t .items) q) (eqb-true (groupAt t g .total) (f .total) x) y
+        joining (kept t (k .keeps)) (k .sized) (ranged f (k .inside)) (bound (hasKey (named .key)) g k q) (first-at (hasKey (named .key)) g (t .items) q) (eqb-true (groupAt t g .total) (f .total) x) y
 
-    by : Passed t size named (inRange f) → (x : Found) → x ≡ first (hasKey (named .key)) 0 (t .items) → Move t named f (addBy t (named .key) f x)
+    by : Passed t size named (inRange f) → (x : Found) → x ≡ first (hasKey (named .key)) 0 (t .items) → Move t size named f (addBy t (named .key) f x)
     by k (Found.At g) q = at k g q (groupAt t g .total =? f .total) (getD (groupAt t g .pieces) (f .number - 1) noPiece .held) refl refl
     by k Found.Nothing q = into k (first-none (hasKey (named .key)) 0 (t .items) q) (first isFree 0 (t .items)) refl
 
     go : (b : Bool) → (0 <? gate t size named (inRange f)) ≡ b
-        → Move t named f (if b then refuse (gate t size named (inRange f)) t else addBy t (named .key) f (first (hasKey (named .key)) 0 (t .items)))
+        → Move t size named f (if b then refuse (gate t size named (inRange f)) t else addBy t (named .key) f (first (hasKey (named .key)) 0 (t .items)))
     go true p = refusing (gate t size named (inRange f))
     go false p = by (passed t size named (inRange f) (let z = ltb-false 0 (gate t size named (inRange f)) p in omega arith)) (first (hasKey (named .key)) 0 (t .items)) refl
 
@@ -89,10 +89,10 @@ add-moves t size named f = go (0 <? gate t size named (inRange f)) refl
 pub added-at : (t : Groups) (size : ℕ) (named : Named) (f : Fragment) (o : Outcome) (at : ℕ) → o ≡ add t size named f → o .answer ≡ added at → (at < 4) × Ranged f
 added-at t size named f o at e a = go (add t size named f) (add-moves t size named f) (ap (λ (x : Outcome). x .answer) (sym e) ∙ a)
   where
-    go : (x : Outcome) → Move t named f x → x .answer ≡ added at → (at < 4) × Ranged f
+    go : (x : Outcome) → Move t size named f x → x .answer ≡ added at → (at < 4) × Ranged f
     go x (refusing n) q = let z : _≡_ {A = ℕ} 0 1 = cc in absurd (omega arith)
-    go x (joining {g} k r b u v w) q = let z : g ≡ at = cc in (omega arith, r)
-    go x (opening {g} k r b u v w) q = let z : g ≡ at = cc in (omega arith, r)
+    go x (joining {g} k s r b u v w) q = let z : g ≡ at = cc in (omega arith, r)
+    go x (opening {g} k s r b u v w) q = let z : g ≡ at = cc in (omega arith, r)
 
 -- every collect is a refusal, or takes a complete group that has the key
 pub data Taking (t : Groups) (size : ℕ) (named : Named) (room : ℕ) : Outcome → Type 0 where

@@ -1,0 +1,5 @@
+-- Theorems of the house store.
+pub mod Keeps
+pub mod Refusals
+pub mod Places
+pub mod Others

@@ -1,0 +1,2 @@
+-- Document 01, "Fragments": histories of calls.
+pub mod History
