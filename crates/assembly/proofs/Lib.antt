@@ -3,3 +3,4 @@ pub mod Keeps
 pub mod Refusals
 pub mod Places
 pub mod Others
+pub mod Parts

@@ -118,6 +118,15 @@ joinedBy (n ∷ rest) l = bytesOf n l ++ joinedBy rest l
 abbrev pub inOrder : List Arrival → List ℕ
 inOrder l = joinedBy (numbers 1 (totalOf l)) l
 
+-- no number is there twice
+abbrev pub once : List Arrival → Bool
+once [] = true
+once (f ∷ rest) = no (some (isNumber (f .number)) rest) and once rest
+
+-- all tell the same M
+abbrev pub agreed : List Arrival → Bool
+agreed l = every (λ f. f .total =? totalOf l) l
+
 abbrev pub accepted : Said → Bool
 accepted (refused n) = false
 accepted (added g) = true
