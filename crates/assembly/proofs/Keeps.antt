@@ -7,7 +7,7 @@ use mathlib.Core.List.{List, [], _∷_, map}
 use lib.ListN.{length, getD, set, length-set, length-map}
 use borrow.Author.Tests.{eq-eqb, lt-ltb, le-leb, eqb-true}
 use Rattle.octets.specs.Words.{if_then_else_, _and_, _or_, no, every, some, between, _<?_, _≤?_, _=?_}
-use Rattle.octets.proofs.Tests.{if-yes, and-left, and-right, and-both, and-next, true-not-false, inside}
+use Rattle.octets.proofs.Tests.{if-yes, and-left, and-right, and-both, and-next, true-not-false, inside, inside-low, inside-high}
 use Rattle.refusals.specs.Numbers.{noCallsign, fragmentMalformed, stateBroken}
 use Rattle.callsigns.specs.Callsign.{callsign}
 use Rattle.callsigns.proofs.Lengths.{callsign-short}
@@ -163,6 +163,14 @@ with-keeps x f r u m l k a =
 pub key-kept : (x : Group) → keepsGroup x ≡ true → keepsKey (x .key) ≡ true
 unfolding keepsGroup
 key-kept x e = and-left (keepsKey (x .key)) _ (and-right (keepsPieces (x .total) 0 (x .pieces)) _ (and-right (length (x .pieces) =? 16) _ e))
+
+-- M of a group in use
+pub total-kept : (x : Group) → keepsGroup x ≡ true → x .used ≡ true → (2 ≤ x .total) × (x .total ≤ 16)
+unfolding keepsGroup
+total-kept x e u =
+    let a = and-right (keepsKey (x .key)) _ (and-right (keepsPieces (x .total) 0 (x .pieces)) _ (and-right (length (x .pieces) =? 16) _ e)) in
+    let b = and-left (between 2 16 (x .total)) _ (sym (if-yes _ _ _ u) ∙ a) in
+    (inside-low 2 16 (x .total) b, inside-high 2 16 (x .total) b)
 
 pub used-key : (k : Key) (x : Group) → hasKey k x ≡ true → x .used ≡ true
 unfolding hasKey

@@ -4,3 +4,4 @@ pub mod Refusals
 pub mod Places
 pub mod Others
 pub mod Parts
+pub mod Sound
