@@ -5,3 +5,4 @@ pub mod Places
 pub mod Others
 pub mod Parts
 pub mod Sound
+pub mod Chain

@@ -137,6 +137,6 @@ joined-whole l store g n (suc m) (p ∷ ps) h k =
     let e : bytesAt store g n p ≡ bytesOf (suc n) l = ap (λ (j : ℕ). bytesAt store g j p) (sym z) ∙ k 0 (omega arith) ∙ ap (λ (j : ℕ). bytesOf (suc j) l) z in
     let r : joinedFrom store g (suc n) (take m ps) ≡ joinedBy (numbers (suc (suc n)) m) l =
     joined-whole l store g (suc n) m ps (omega arith)
-        (λ i j. let x : suc n + i ≡ n + suc i = omega arith in ap (λ (v : ℕ). bytesAt store g v (getD ps i noPiece)) x ∙ k (suc i) (omega arith) ∙ ap (λ (v : ℕ). bytesOf (suc v) l) (sym x)) in
+    (λ i j. let x : suc n + i ≡ n + suc i = omega arith in ap (λ (v : ℕ). bytesAt store g v (getD ps i noPiece)) x ∙ k (suc i) (omega arith) ∙ ap (λ (v : ℕ). bytesOf (suc v) l) (sym x)) in
     let q : joinedFrom store g (n + 1) (take m ps) ≡ joinedBy (numbers (suc (suc n)) m) l = ap (λ (j : ℕ). joinedFrom store g j (take m ps)) y ∙ r in
     λ i. e i ++ q i

@@ -15,7 +15,6 @@ use Rattle.groupcalls.proofs.Moves.{Move, joining, opening, add-moves, Taking, 
 use Rattle.fragments.specs.Store.{outAfter, storeAfter}
 use Rattle.assembly.specs.History.{Names, named, Arrival, fragment, Call, adding, collecting, sweeping, House, outcome, bytesAfter, after}
 
-
 add-stays : (w : House) (a : Names) (f : Arrival) (n : ℕ) → outcome w (adding a f) .answer ≡ refused n → outcome w (adding a f) .after ≡ w .groups
 add-stays w a f n e = go (outcome w (adding a f)) (add-moves (w .groups) (length (w .store)) (named a) (fragment f)) e
   where

@@ -30,7 +30,7 @@ use Rattle.assembly.proofs.Parts.{Parts, parts-none, parts-stay, parts-
 
 -- ---- a group has a key, or another
 
-has-same : (j k : Key) (x : Group) → sameKey j k ≡ true → hasKey j x ≡ true → hasKey k x ≡ true
+pub has-same : (j k : Key) (x : Group) → sameKey j k ≡ true → hasKey j x ≡ true → hasKey k x ≡ true
 unfolding hasKey
 has-same j k x e h = and-both _ _ (and-left (x .used) _ h) (sameKey-trans k j (x .key) (sameKey-sym j k e) (and-right (x .used) _ h))
 
@@ -38,7 +38,7 @@ has-both : (j k : Key) (x : Group) → hasKey j x ≡ true → hasKey k x ≡ tr
 unfolding hasKey
 has-both j k x a b = sameKey-trans j (x .key) k (and-right (x .used) _ a) (sameKey-sym k (x .key) (and-right (x .used) _ b))
 
-has-other : (j k : Key) (x : Group) → sameKey j k ≡ false → hasKey j x ≡ true → hasKey k x ≡ false
+pub has-other : (j k : Key) (x : Group) → sameKey j k ≡ false → hasKey j x ≡ true → hasKey k x ≡ false
 has-other j k x e h = go (hasKey k x) refl
   where
     go : (b : Bool) → hasKey k x ≡ b → b ≡ false
@@ -118,7 +118,7 @@ good-empty keeps store =
     }
 
 -- the lengths of a group's places
-shorts : (x : Group) → keepsGroup x ≡ true → (n : ℕ) → n < 16 → getD (x .pieces) n noPiece .len ≤ place
+pub shorts : (x : Group) → keepsGroup x ≡ true → (n : ℕ) → n < 16 → getD (x .pieces) n noPiece .len ≤ place
 shorts x k n h = let l = pieces-kept x k in short-at (x .total) (x .pieces) n (l .1) (omega (arith, l .0))
 
 -- ---- after an add: the group g is y, which has the key j and one fragment more

@@ -1,9 +1,11 @@
 -- Document 01, "Fragments", over many calls: the history of a house store, and what it says by itself of the fragments that were added under a key.
-use Prim.Native.Nat.{ℕ, suc, zero, _-_, _+_}
+use mathlib.Core.Path.{_≡_}
+use Prim.Native.Nat.{ℕ, zero, suc, _-_, _≤_}
 use mathlib.Core.Bool.{Bool, true, false}
 use mathlib.Core.List.{List, [], _∷_, _++_}
 use lib.ListN.{length}
 use Rattle.octets.specs.Words.{if_then_else_, _and_, no, every, some, _≤?_, _=?_}
+use Rattle.octets.specs.Bytes.{front}
 use Rattle.groupkeys.specs.declared.Key.{Key}
 use Rattle.groupkeys.specs.declared.Named.{Named}
 use Rattle.groupkeys.specs.Key.{sameKey, namedOf}
@@ -71,8 +73,8 @@ pub data History : Type 0 where
 
 -- `Reached h w`: from free groups and any bytes, the calls of h got just the answers that stand in h, and left the house w
 pub data Reached : History → House → Type 0 where
-  new : (bytes : List ℕ) → Reached start (record { groups = empty; store = bytes })
-  then : {h : History} {w : House} → Reached h w → (c : Call) → Reached (h ▷ c ⇒ outcome w c .answer) (after w c)
+  fresh : (bytes : List ℕ) → Reached start (record { groups = empty; store = bytes })
+  next : {h : History} {w : House} → Reached h w → (c : Call) → Reached (h ▷ c ⇒ outcome w c .answer) (after w c)
 
 -- ---- what a history says by itself: no group and no store stands in any of these
 
@@ -143,3 +145,18 @@ withCall k (sweeping time) l = if stale time l then [] else l
 abbrev pub since : Key → History → List Arrival
 since k start = []
 since k (h ▷ c ⇒ a) = if accepted a then withCall k c (since k h) else since k h
+
+-- ---- what the theorem says of a collect
+
+-- the buffer that is lent for a collect, after it
+abbrev pub bufferAfter : House → Names → List ℕ → List ℕ
+bufferAfter w a out = outAfter (outcome w (collecting a out) .answer) (w .groups) (w .store) out
+
+-- `Delivered l out buffer`: a buffer that held `out` holds, at its front, the bytes of the fragments l, joined in the order of their numbers
+pub record Delivered (l : List Arrival) (out buffer : List ℕ) : Type 0 where
+  -- each of the fragments 1 to M is among them, none twice, and all tell the same M
+  pub all : whole l ≡ true
+  pub single : once l ≡ true
+  pub agree : agreed l ≡ true
+  pub least : 2 ≤ totalOf l
+  pub bytes : buffer ≡ front (inOrder l) out

@@ -31,11 +31,10 @@ returns c =
     let at-args = c .before .before .before .before .before .args in
     let at-loop = c .before .before .loop in
     let at-pre = c .before .before .before .before .before .pre in
-    
-     let e = fragments-end (at-args .t1 .total) (at-args .t1 .pieces) (at-loop .i) (omega arith) in
-     let b = ap bytesIn e in
-     let l = length-rest (at-args .store .now) (at-args .g) (at-pre .0) (at-pre .1) (at-args .t1) 0 (omega arith) (at-loop .inv .0) (at-pre .2) in
-     join-end (at-args .store .now) (at-args .g) (at-loop .i) (at-loop .at) _ (joined (at-args .store .now) (at-args .g) (at-args .t1)) (at-loop .out) (at-args .out .now) e (omega arith) (at-loop .inv .3) (omega arith)
+    let e = fragments-end (at-args .t1 .total) (at-args .t1 .pieces) (at-loop .i) (omega arith) in
+    let b = ap bytesIn e in
+    let l = length-rest (at-args .store .now) (at-args .g) (at-pre .0) (at-pre .1) (at-args .t1) 0 (omega arith) (at-loop .inv .0) (at-pre .2) in
+    join-end (at-args .store .now) (at-args .g) (at-loop .i) (at-loop .at) _ (joined (at-args .store .now) (at-args .g) (at-args .t1)) (at-loop .out) (at-args .out .now) e (omega arith) (at-loop .inv .3) (omega arith)
 
 add-copy-at : tie.Need-add-copy-at Inv-loop μ-loop
 add-copy-at c =
@@ -64,16 +63,15 @@ loop-again c =
     let at-pre = c .before .before .before .before .before .before .before .before .before .before .before .before .pre in
     let at-wide = c .before .before .before .before .before .wide in
     let at-copy-at = c .before .before .copy-at in
-    
-     let x = at-args .t1 in
-     let q = short-at (x .total) (x .pieces) (at-loop .i) (at-pre .2) (omega arith) in
-     let e = fragments-next (x .total) (x .pieces) (at-loop .i) (omega arith) (omega arith) in
-     let b = ap bytesIn e in
-     let l = length-rest (at-args .store .now) (at-args .g) (at-pre .0) (at-pre .1) x (at-loop .i + 1) (omega arith) (at-loop .inv .0) (at-pre .2) in
-     let w = part-bytes (at-args .store .now) (at-args .g) (at-loop .i) (getD (x .pieces) (at-loop .i) noPiece) (at-wide .result) (at-pre .0) (omega arith) (at-pre .1) q (at-wide .ensures) in
-     let from = (16 * at-args .g + at-loop .i) * 1024 in
-     let n = join-next (at-args .store .now) (at-args .g) (at-loop .i) (at-loop .at) (at-wide .result) (drop (at-loop .i) (fragments x)) (drop (at-loop .i + 1) (fragments x)) (getD (x .pieces) (at-loop .i) noPiece) (take (from + at-wide .result - from) (drop from (at-args .store .now))) (at-loop .out) _ e (w .0) (at-copy-at .ensures .1) (w .1) (omega arith) in
-     (at-loop .inv .0, n .0 ∙ at-loop .inv .1, omega arith, n .1 ∙ at-loop .inv .3, search needs)
+    let x = at-args .t1 in
+    let q = short-at (x .total) (x .pieces) (at-loop .i) (at-pre .2) (omega arith) in
+    let e = fragments-next (x .total) (x .pieces) (at-loop .i) (omega arith) (omega arith) in
+    let b = ap bytesIn e in
+    let l = length-rest (at-args .store .now) (at-args .g) (at-pre .0) (at-pre .1) x (at-loop .i + 1) (omega arith) (at-loop .inv .0) (at-pre .2) in
+    let w = part-bytes (at-args .store .now) (at-args .g) (at-loop .i) (getD (x .pieces) (at-loop .i) noPiece) (at-wide .result) (at-pre .0) (omega arith) (at-pre .1) q (at-wide .ensures) in
+    let from = (16 * at-args .g + at-loop .i) * 1024 in
+    let n = join-next (at-args .store .now) (at-args .g) (at-loop .i) (at-loop .at) (at-wide .result) (drop (at-loop .i) (fragments x)) (drop (at-loop .i + 1) (fragments x)) (getD (x .pieces) (at-loop .i) noPiece) (take (from + at-wide .result - from) (drop from (at-args .store .now))) (at-loop .out) _ e (w .0) (at-copy-at .ensures .1) (w .1) (omega arith) in
+    (at-loop .inv .0, n .0 ∙ at-loop .inv .1, omega arith, n .1 ∙ at-loop .inv .3, search needs)
 
 same-length-2 : tie.Need-same-length-2 Inv-loop μ-loop
 same-length-2 c = c .before .loop .inv .1
@@ -83,11 +81,10 @@ returns-2 c =
     let at-args = c .before .before .before .before .args in
     let at-loop = c .before .loop in
     let at-pre = c .before .before .before .before .pre in
-    
-     let e = fragments-end (at-args .t1 .total) (at-args .t1 .pieces) (at-loop .i) (omega arith) in
-     let b = ap bytesIn e in
-     let l = length-rest (at-args .store .now) (at-args .g) (at-pre .0) (at-pre .1) (at-args .t1) 0 (omega arith) (at-loop .inv .0) (at-pre .2) in
-     join-end (at-args .store .now) (at-args .g) (at-loop .i) (at-loop .at) _ (joined (at-args .store .now) (at-args .g) (at-args .t1)) (at-loop .out) (at-args .out .now) e (omega arith) (at-loop .inv .3) (omega arith)
+    let e = fragments-end (at-args .t1 .total) (at-args .t1 .pieces) (at-loop .i) (omega arith) in
+    let b = ap bytesIn e in
+    let l = length-rest (at-args .store .now) (at-args .g) (at-pre .0) (at-pre .1) (at-args .t1) 0 (omega arith) (at-loop .inv .0) (at-pre .2) in
+    join-end (at-args .store .now) (at-args .g) (at-loop .i) (at-loop .at) _ (joined (at-args .store .now) (at-args .g) (at-args .t1)) (at-loop .out) (at-args .out .now) e (omega arith) (at-loop .inv .3) (omega arith)
 
 pub join-spec : {M : Type 1} → statement M
 join-spec =
