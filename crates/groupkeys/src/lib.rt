@@ -5,6 +5,9 @@ ghost use Rattle.groupkeys.specs.Key.{sameKey, keepsKey, noKey, namedOf}
 
 mod parts;
 
+// A master id is 7 hex digits: a number below this.
+pub(crate) const MASTER_END: u32 = 268435456;
+
 // A group's key: its originator, which may be absent, and its master id. The originator stands in the front of its array; the bytes past it are zero.
 pub struct Key {
     pub has_originator: bool,
@@ -76,5 +79,5 @@ pub fn keeps(k: Key) -> bool
     if !parts::zero_from(&k.originator, n) {
         return false;
     }
-    k.master < 268435456
+    k.master < MASTER_END
 }

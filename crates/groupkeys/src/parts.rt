@@ -64,7 +64,7 @@ pub(crate) fn present(originator: &[u8], master: u32) -> Named
     if !callsigns::is_callsign(originator) {
         return unnamed(refusals::NO_CALLSIGN);
     }
-    if master >= 268435456 {
+    if master >= crate::MASTER_END {
         return unnamed(refusals::FRAGMENT_MALFORMED);
     }
     let key = key_of(originator, master);
@@ -78,7 +78,7 @@ pub(crate) fn present(originator: &[u8], master: u32) -> Named
 pub(crate) fn absent(master: u32) -> Named
     ensures { λ r. ⌜ r ≡ namedOf false [] master ⌝ }
 {
-    if master >= 268435456 {
+    if master >= crate::MASTER_END {
         return unnamed(refusals::FRAGMENT_MALFORMED);
     }
     let key = Key {
