@@ -6,3 +6,4 @@ pub mod Others
 pub mod Parts
 pub mod Sound
 pub mod Chain
+pub mod Gives
