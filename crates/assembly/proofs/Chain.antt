@@ -1,13 +1,13 @@
 -- THEOREM: over any chain of adds, collects and sweeps from free groups, in which the host lends the same bytes unaltered, a collect that is not refused
 -- gives exactly the bytes of the M fragments that were added under its key since the group opened, in the order of N, whatever the order of arrival.
 use mathlib.Core.Path.{_≡_, refl, sym, ap, _∙_, subst}
-use Prim.Native.Nat.{ℕ, suc, _+_, _*_, _-_, _≤_, _<_}
+use Prim.Native.Nat.{ℕ, _-_, _≤_, _<_}
 use native.Mathlib.Omega.{arith}
 use mathlib.Core.Bool.{Bool, true, false}
 use mathlib.Core.List.{List, [], _∷_, map}
 use lib.ListN.{length, getD, getD-replicate}
 use borrow.Author.Tests.{eq-eqb}
-use Rattle.octets.specs.Words.{if_then_else_, no, every, some, _=?_}
+use Rattle.octets.specs.Words.{if_then_else_, no, every, _=?_}
 use Rattle.octets.specs.Bytes.{front, placed}
 use Rattle.octets.proofs.Tests.{and-both, true-not-false}
 use Rattle.refusals.specs.Numbers.{stateBroken}
@@ -17,15 +17,15 @@ use Rattle.groupkeys.proofs.SameKey.{sameKey-refl, sameKey-sym}
 use Rattle.groups.specs.declared.Group.{Group}
 use Rattle.groups.specs.declared.Groups.{Groups}
 use Rattle.groups.specs.declared.Piece.{Piece}
-use Rattle.groups.specs.Groups.{place, storeSize, noPiece, hasKey, complete, keepsGroups, pastGroup, groupAt}
-use Rattle.groupcalls.specs.Answer.{Said, added, collected, swept, refused, Outcome, refuse}
-use Rattle.groupcalls.specs.Calls.{withFragment, opened, add, collect, sweep, sweptGroup}
-use Rattle.groupcalls.proofs.Tests.{Ranged, Kept, kept, pieces-kept, group-kept}
+use Rattle.groups.specs.Groups.{place, storeSize, noPiece, hasKey, keepsGroups, pastGroup, groupAt}
+use Rattle.groupcalls.specs.Answer.{swept, Outcome, refuse}
+use Rattle.groupcalls.specs.Calls.{withFragment, opened, sweep, sweptGroup}
+use Rattle.groupcalls.proofs.Tests.{Ranged, pieces-kept, group-kept}
 use Rattle.groupcalls.proofs.Moves.{Move, joining, opening, add-moves, Taking, taking, collect-takes}
-use Rattle.fragments.specs.Store.{placeOf, joined, storeAfter, outAfter}
-use Rattle.assembly.specs.History.{Names, named, keyFor, Arrival, fragment, Call, adding, collecting, sweeping, House, outcome, bytesAfter, after, History, Reached, fresh, next, totalOf, firstTime, agreed, whole, inOrder, accepted, withCall, since, bufferAfter, Delivered}
+use Rattle.fragments.specs.Store.{placeOf, storeAfter, outAfter}
+use Rattle.assembly.specs.History.{Names, named, keyFor, Arrival, fragment, Call, adding, collecting, sweeping, House, outcome, bytesAfter, after, History, Reached, fresh, next, firstTime, accepted, withCall, since, bufferAfter, Delivered}
 use Rattle.assembly.proofs.Keeps.{empty-keeps, add-keeps, collect-keeps, sweep-keeps, some-at, free-key, used-key, total-kept}
-use Rattle.assembly.proofs.Parts.{Parts, parts-none, parts-add}
+use Rattle.assembly.proofs.Parts.{parts-none, parts-add}
 use Rattle.assembly.proofs.Sound.{Match, match-complete, match-joined, Good, good-empty, good-add, good-collect, good-sweep, shorts, has-same, has-other}
 
 -- ---- the group that an accepted add leaves

@@ -1,14 +1,13 @@
 -- THEOREM: over any such chain, a collect of a key whose fragments 1 to M were all added since its group opened is not refused, if the store is whole,
 -- the names are good, and the buffer has room for the bytes.
 use mathlib.Core.Path.{_≡_, refl, sym, ap, _∙_}
-use Prim.Native.Nat.{ℕ, _+_, _≤_, _<_}
+use Prim.Native.Nat.{ℕ, _≤_, _<_}
 use native.Mathlib.Omega.{arith}
-use mathlib.Core.Bool.{Bool, true, false}
-use mathlib.Core.List.{List, []}
+use mathlib.Core.Bool.{true}
+use mathlib.Core.List.{List}
 use lib.ListN.{length}
 use borrow.Author.Tests.{eq-eqb, le-ltb}
-use Rattle.octets.specs.Words.{if_then_else_, no as not, some, _<?_, _=?_}
-use Rattle.octets.proofs.Tests.{if-no, no-true, true-not-false}
+use Rattle.octets.proofs.Tests.{if-no, no-true}
 use Rattle.groupkeys.specs.declared.Key.{Key}
 use Rattle.groupkeys.specs.declared.Named.{Named}
 use Rattle.groups.specs.declared.Groups.{Groups}
@@ -16,14 +15,13 @@ use Rattle.groups.specs.declared.Found.{Found}
 use Rattle.groups.specs.Groups.{storeSize, hasKey, complete, joinedLength, keepsGroups, first, pastGroup, groupAt}
 use Rattle.groups.proofs.Search.{first-bound}
 use Rattle.groupcalls.specs.Answer.{Outcome}
-use Rattle.groupcalls.specs.Calls.{gate, collectAt, collectBy, collect}
+use Rattle.groupcalls.specs.Calls.{gate, collectAt, collectBy}
 use Rattle.groupcalls.proofs.Tests.{kept, pieces-kept, group-kept, collect-passed}
 use Rattle.groupcalls.proofs.Moves.{first-at, first-none}
-use Rattle.fragments.specs.Store.{joined}
 use Rattle.fragments.proofs.Joins.{length-rest}
-use Rattle.assembly.specs.History.{Names, named, keyFor, Arrival, collecting, House, outcome, History, Reached, whole, inOrder, accepted, since}
+use Rattle.assembly.specs.History.{Names, named, keyFor, collecting, House, outcome, History, Reached, whole, inOrder, accepted, since}
 use Rattle.assembly.proofs.Keeps.{some-at, free-key, used-key}
-use Rattle.assembly.proofs.Sound.{Match, match-complete, match-joined, Good}
+use Rattle.assembly.proofs.Sound.{match-complete, match-joined, Good}
 use Rattle.assembly.proofs.Chain.{sound}
 
 gate-open : (t : Groups) (size : ℕ) (n : Named) → keepsGroups t ≡ true → size ≡ storeSize → n .refusal ≡ 0 → gate t size n true ≡ 0

@@ -1,15 +1,14 @@
 -- THEOREM: every call returns groups that keep the rules, if it is handed such.
-use mathlib.Core.Path.{_≡_, refl, sym, ap, _∙_}
+use mathlib.Core.Path.{_≡_, refl, sym, _∙_}
 use Prim.Native.Nat.{ℕ, zero, suc, _+_, _-_, _≤_, _<_}
 use native.Mathlib.Omega.{arith}
 use mathlib.Core.Bool.{Bool, true, false}
 use mathlib.Core.List.{List, [], _∷_, map}
 use lib.ListN.{length, getD, set, length-set, length-map}
 use borrow.Author.Tests.{eq-eqb, lt-ltb, le-leb, eqb-true}
-use Rattle.octets.specs.Words.{if_then_else_, _and_, _or_, no, every, some, between, _<?_, _≤?_, _=?_}
+use Rattle.octets.specs.Words.{if_then_else_, _and_, _or_, no, every, some, between, _≤?_, _=?_}
 use Rattle.octets.proofs.Tests.{if-yes, and-left, and-right, and-both, and-next, true-not-false, inside, inside-low, inside-high}
 use Rattle.refusals.specs.Numbers.{noCallsign, fragmentMalformed, stateBroken}
-use Rattle.callsigns.specs.Callsign.{callsign}
 use Rattle.callsigns.proofs.Lengths.{callsign-short}
 use Rattle.groupkeys.specs.declared.Key.{Key}
 use Rattle.groupkeys.specs.declared.Named.{Named}
@@ -17,7 +16,7 @@ use Rattle.groups.specs.declared.Piece.{Piece}
 use Rattle.groups.specs.declared.Group.{Group}
 use Rattle.groups.specs.declared.Groups.{Groups}
 use Rattle.groupkeys.specs.Key.{sameKey, isOriginator, isMaster, given, keyOf, noKey, keepsKey, namedOf}
-use Rattle.groups.specs.Groups.{place, isHeld, freeGroup, hasKey, complete, keepsPiece, keepsPieces, keepsUse, keepsGroup, keepsGroups, twice, distinct, pastGroup, groupAt, withGroup, empty}
+use Rattle.groups.specs.Groups.{place, isHeld, freeGroup, hasKey, complete, keepsPiece, keepsPieces, keepsGroup, keepsGroups, twice, distinct, pastGroup, groupAt, withGroup, empty}
 use Rattle.groupkeys.proofs.Names.{key-keeps}
 use Rattle.groupkeys.proofs.SameKey.{sameKey-sym}
 use Rattle.groupcalls.specs.declared.Fragment.{Fragment}

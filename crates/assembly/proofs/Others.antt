@@ -1,19 +1,17 @@
 -- THEOREMS: a call on one group leaves the others as they were, in the groups and in the store.
-use mathlib.Core.Path.{_≡_, refl, sym, ap, _∙_}
-use Prim.Native.Nat.{ℕ, _+_, _*_, _-_, _≤_, _<_}
+use mathlib.Core.Path.{_≡_, refl, _∙_}
+use Prim.Native.Nat.{ℕ, _*_, _-_, _≤_, _<_}
 use native.Mathlib.Omega.{arith}
 use native.Mathlib.Decide.{decLt}
 use mathlib.Core.List.{List}
-use lib.ListN.{length, getD, take, drop}
+use lib.ListN.{length, take, drop}
 use lib.Seq.{getD-set-other}
 use Rattle.octets.specs.Bytes.{placed}
-use Rattle.groups.specs.declared.Groups.{Groups}
 use Rattle.groups.specs.Groups.{place, storeSize, pastGroup, groupAt}
-use Rattle.groupcalls.specs.Answer.{Said, added, collected, Outcome}
-use Rattle.groupcalls.proofs.Tests.{Ranged}
+use Rattle.groupcalls.specs.Answer.{added, collected, Outcome}
 use Rattle.groupcalls.proofs.Moves.{Move, joining, opening, add-moves, Taking, taking, collect-takes}
 use Rattle.fragments.specs.Store.{placeOf, storeAfter}
-use Rattle.assembly.specs.History.{Names, named, Arrival, fragment, Call, adding, collecting, House, outcome, bytesAfter, after}
+use Rattle.assembly.specs.History.{Names, named, Arrival, fragment, adding, collecting, House, outcome, after}
 use Rattle.assembly.proofs.Places.{placed-before, placed-behind}
 
 -- the 16 places of group j in the store

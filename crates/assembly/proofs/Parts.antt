@@ -3,12 +3,12 @@ use mathlib.Core.Path.{_≡_, refl, sym, ap, _∙_}
 use Prim.Native.Nat.{ℕ, zero, suc, _+_, _*_, _-_, _≤_, _<_}
 use native.Mathlib.Omega.{arith}
 use native.Mathlib.Decide.{decLt, ℕ-discrete}
-use mathlib.Core.Bool.{Bool, true, false}
+use mathlib.Core.Bool.{true, false}
 use mathlib.Core.List.{List, [], _∷_, _++_}
 use lib.ListN.{length, getD, set, take, drop, replicate, getD-replicate}
 use lib.Seq.{getD-set-same, getD-set-other}
 use borrow.Author.Tests.{eq-eqb, ne-eqb}
-use Rattle.octets.specs.Words.{if_then_else_, _and_, _or_, every, some, _=?_}
+use Rattle.octets.specs.Words.{_and_, _or_, every, some}
 use Rattle.octets.specs.Bytes.{placed}
 use Rattle.octets.proofs.Tests.{if-yes, if-no, and-both, or-left, or-next, no-false}
 use Rattle.groups.specs.declared.Piece.{Piece}

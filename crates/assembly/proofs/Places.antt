@@ -1,9 +1,9 @@
 -- A part of a buffer after bytes were placed in it: what was placed, where they were placed; elsewhere as it was.
-use mathlib.Core.Path.{_≡_, refl, sym, ap, _∙_}
-use Prim.Native.Nat.{ℕ, _+_, _-_, _≤_, min}
+use mathlib.Core.Path.{_≡_, sym, ap, _∙_}
+use Prim.Native.Nat.{ℕ, _+_, _-_, _≤_}
 use native.Mathlib.Omega.{arith}
 use mathlib.Core.List.{List, _++_}
-use lib.ListN.{length, take, drop, length-take, length-drop, take-append-drop}
+use lib.ListN.{length, take, drop, length-drop, take-append-drop}
 use lib.Seq.{take-append-seam, take-append-le, drop-append-le, drop-append-add, drop-at, drop-drop, length-take-le}
 use Rattle.octets.specs.Bytes.{placed}
 use Rattle.octets.proofs.Lists.{placed-in}

@@ -10,7 +10,7 @@ use Rattle.refusals.specs.Numbers.{stateBroken}
 use Rattle.groups.specs.declared.Groups.{Groups}
 use Rattle.groups.specs.Groups.{keepsGroups}
 use Rattle.groupcalls.specs.Answer.{Said, swept, refused, Outcome, refuse}
-use Rattle.groupcalls.specs.Calls.{add, collect, sweep, sweptGroup}
+use Rattle.groupcalls.specs.Calls.{sweep, sweptGroup}
 use Rattle.groupcalls.proofs.Moves.{Move, joining, opening, add-moves, Taking, taking, collect-takes}
 use Rattle.fragments.specs.Store.{outAfter, storeAfter}
 use Rattle.assembly.specs.History.{Names, named, Arrival, fragment, Call, adding, collecting, sweeping, House, outcome, bytesAfter, after}

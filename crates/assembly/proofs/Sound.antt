@@ -6,27 +6,25 @@ use native.Mathlib.Decide.{ℕ-discrete}
 use mathlib.Core.Bool.{Bool, true, false}
 use mathlib.Core.List.{List, [], _∷_, map}
 use mathlib.Core.Logic.{_⊎_, inl, inr}
-use lib.ListN.{length, getD, set, getD-replicate, List·getD-map}
+use lib.ListN.{length, getD, getD-replicate, List·getD-map}
 use lib.Seq.{getD-set-same, getD-set-other}
-use borrow.Author.Tests.{eq-eqb}
-use Rattle.octets.specs.Words.{if_then_else_, _and_, no as not, every, some, _≤?_, _=?_}
+use Rattle.octets.specs.Words.{if_then_else_, _and_, no as not, every, some, _≤?_}
 use Rattle.octets.specs.Bytes.{placed}
-use Rattle.octets.proofs.Tests.{if-yes, if-no, and-left, and-right, and-both, and-next, true-not-false, inside-low, inside-high}
+use Rattle.octets.proofs.Tests.{if-yes, if-no, and-left, and-right, and-both, and-next, true-not-false}
 use Rattle.groupkeys.specs.declared.Key.{Key}
 use Rattle.groupkeys.specs.Key.{sameKey}
 use Rattle.groupkeys.proofs.SameKey.{sameKey-sym, sameKey-trans}
 use Rattle.groups.specs.declared.Group.{Group}
 use Rattle.groups.specs.declared.Groups.{Groups}
-use Rattle.groups.specs.Groups.{place, storeSize, noPiece, isHeld, freeGroup, hasKey, complete, keepsGroup, keepsGroups, keepsPieces, distinct, twice, pastGroup, groupAt, withGroup, empty}
-use Rattle.groupcalls.specs.declared.Fragment.{Fragment}
-use Rattle.groupcalls.specs.Calls.{withFragment, opened, sweptGroup}
-use Rattle.groupcalls.proofs.Tests.{Ranged, Kept, kept, pieces-kept, group-kept}
+use Rattle.groups.specs.Groups.{place, storeSize, noPiece, freeGroup, hasKey, complete, keepsGroup, keepsGroups, distinct, twice, pastGroup, groupAt, withGroup, empty}
+use Rattle.groupcalls.specs.Calls.{sweptGroup}
+use Rattle.groupcalls.proofs.Tests.{Ranged, kept, pieces-kept, group-kept}
 use Rattle.groupcalls.proofs.Moves.{not-free}
 use Rattle.fragments.specs.Store.{placeOf, joined}
 use Rattle.fragments.proofs.Joins.{short-at}
-use Rattle.assembly.specs.History.{Arrival, fragment, isNumber, numbers, joinedBy, totalOf, firstTime, whole, stale, inOrder, once, agreed}
+use Rattle.assembly.specs.History.{Arrival, fragment, isNumber, numbers, joinedBy, totalOf, firstTime, whole, stale, inOrder, agreed}
 use Rattle.assembly.proofs.Keeps.{some-at, free-key, used-key, total-kept}
-use Rattle.assembly.proofs.Parts.{Parts, parts-none, parts-stay, parts-add, held-whole, joined-whole}
+use Rattle.assembly.proofs.Parts.{Parts, parts-stay, held-whole, joined-whole}
 
 -- ---- a group has a key, or another
 

@@ -12,8 +12,8 @@ use Rattle.octets.proofs.Tests.{and-left, and-right, and-both}
 use Rattle.octets.proofs.Lists.{length-placed, placed-in, placed-none, placed-next, every-at}
 use Rattle.groups.specs.declared.Piece.{Piece}
 use Rattle.groups.specs.declared.Group.{Group}
-use Rattle.groups.specs.Groups.{place, storeSize, noPiece, fragments, bytesIn, joinedLength, keepsPiece, keepsPieces}
-use Rattle.fragments.specs.Store.{bytesAt, joinedFrom, joined}
+use Rattle.groups.specs.Groups.{place, storeSize, noPiece, fragments, bytesIn, keepsPiece, keepsPieces}
+use Rattle.fragments.specs.Store.{bytesAt, joinedFrom}
 
 -- ---- no fragment is longer than its place
 

@@ -1,6 +1,6 @@
 -- Every public function leaves one outcome and asks nothing.
 use Prim.Native.Nat.{ℕ}
-use mathlib.Core.Path.{_≡_, refl, sym, ap, _∙_}
+use mathlib.Core.Path.{_≡_, sym, ap, _∙_}
 use mathlib.Core.List.{List}
 use Rattle.octets.specs.Unique.{One, Free}
 use Rattle.groupcalls.specs.Answer.{says, Outcome}

@@ -26,7 +26,9 @@ pub fn add_fragment(
     bytes: &[u8],
     time: u32,
 ) -> Served
-    ensures { λ r. ⌜ (says r ≡ add groups (length (now (store .entry))) (namedOf «has_originator» (now (originator .entry)) master) (record { number = number; total = total; len = length (now (bytes .entry)); time = time })) × (now (store .exit) ≡ storeAfter (says r .answer) number (now (bytes .entry)) (now (store .entry))) ⌝ }
+    ensures { λ r. ⌜ (says r ≡ add groups (length (now (store .entry))) (namedOf «has_originator» (now (originator .entry)) master)
+        (record { number = number; total = total; len = length (now (bytes .entry)); time = time }))
+        × (now (store .exit) ≡ storeAfter (says r .answer) number (now (bytes .entry)) (now (store .entry))) ⌝ }
 {
     let f = Fragment {
         number: number,
@@ -56,7 +58,8 @@ pub fn collect_group(
     master: u32,
     out: &mut [u8],
 ) -> Served
-    ensures { λ r. ⌜ (says r ≡ collect groups (length (now (store .entry))) (namedOf «has_originator» (now (originator .entry)) master) (length (now (out .entry)))) × (now (out .exit) ≡ outAfter (says r .answer) groups (now (store .entry)) (now (out .entry))) ⌝ }
+    ensures { λ r. ⌜ (says r ≡ collect groups (length (now (store .entry))) (namedOf «has_originator» (now (originator .entry)) master) (length (now (out .entry))))
+        × (now (out .exit) ≡ outAfter (says r .answer) groups (now (store .entry)) (now (out .entry))) ⌝ }
 {
     let s = groupcalls::collect(
         groups,

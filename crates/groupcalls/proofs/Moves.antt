@@ -5,7 +5,7 @@ use Prim.Native.Nat.{ℕ, suc, _+_, _-_, _≤_, _<_}
 use native.Mathlib.Omega.{arith}
 use mathlib.Core.Bool.{Bool, true, false}
 use mathlib.Core.List.{List, [], _∷_}
-use lib.ListN.{length, getD}
+use lib.ListN.{getD}
 use borrow.Author.Tests.{ltb-false, eqb-true}
 use Rattle.octets.specs.Words.{if_then_else_, _or_, no, some, _<?_, _=?_}
 use Rattle.refusals.specs.Numbers.{otherTotal, fragmentHeld, notComplete, bufferTooShort}
@@ -16,7 +16,7 @@ use Rattle.groups.specs.declared.Found.{Found}
 use Rattle.groups.specs.Groups.{storeSize, noPiece, freeGroup, isFree, hasKey, complete, joinedLength, keepsPieces, first, pastGroup, groupAt, withGroup}
 use Rattle.groups.proofs.Search.{found-nothing, first-bound}
 use Rattle.groupcalls.specs.declared.Fragment.{Fragment}
-use Rattle.groupcalls.specs.Answer.{Said, added, collected, refused, Outcome, refuse}
+use Rattle.groupcalls.specs.Answer.{added, collected, Outcome, refuse}
 use Rattle.groupcalls.specs.Calls.{gate, inRange, addTo, opened, addIn, addBy, add, collectBy, collect}
 use Rattle.groupcalls.proofs.Tests.{Ranged, ranged, Kept, kept, pieces-kept, group-kept, Passed, passed}
 

@@ -1,26 +1,24 @@
 -- What the tests of each call come to: the gate that add and collect share, the ranges of a fragment, the group that was found.
 use mathlib.Core.Path.{_≡_, refl, sym, ap, _∙_}
-use Prim.Native.Nat.{ℕ, suc, _+_, _-_, _≤_, _<_}
+use Prim.Native.Nat.{ℕ, _-_, _≤_, _<_}
 use native.Mathlib.Omega.{arith}
 use mathlib.Core.Bool.{Bool, true, false}
 use mathlib.Core.List.{List, [], _∷_, map}
 use lib.ListN.{length, getD, set}
 use borrow.Author.Tests.{lt-ltb, le-ltb, ltb-true, ltb-false, leb-true, eqb-true}
-use Rattle.octets.specs.Words.{if_then_else_, _and_, no, every, between, _<?_, _≤?_, _=?_}
-use Rattle.octets.proofs.Tests.{if-yes, if-no, and-left, and-right, inside-low, inside-high, no-true, no-false}
+use Rattle.octets.specs.Words.{if_then_else_, _and_, no, every, between, _<?_, _=?_}
+use Rattle.octets.proofs.Tests.{if-yes, if-no, and-left, and-right, inside-low, inside-high}
 use Rattle.octets.proofs.Lists.{every-at}
-use Rattle.refusals.specs.Numbers.{stateBroken, storeLength, fragmentMalformed, notComplete, bufferTooShort}
+use Rattle.refusals.specs.Numbers.{stateBroken, storeLength, fragmentMalformed}
 use Rattle.groupkeys.specs.declared.Key.{Key}
 use Rattle.groupkeys.specs.declared.Named.{Named}
 use Rattle.groups.specs.declared.Group.{Group}
 use Rattle.groups.specs.declared.Groups.{Groups}
 use Rattle.groups.specs.declared.Found.{Found}
-use Rattle.groups.specs.Groups.{place, storeSize, freeGroup, isFree, hasKey, complete, joinedLength, keepsPieces, keepsGroup, keepsGroups, distinct, first, pastGroup, groupAt, withGroup}
-use Rattle.groupkeys.specs.Key.{keepsKey}
-use Rattle.groups.proofs.Search.{first-bound}
+use Rattle.groups.specs.Groups.{place, storeSize, freeGroup, isFree, hasKey, joinedLength, keepsPieces, keepsGroup, keepsGroups, distinct, first, pastGroup, groupAt, withGroup}
 use Rattle.groupcalls.specs.declared.Fragment.{Fragment}
-use Rattle.groupcalls.specs.Answer.{Said, added, swept, collected, Outcome, refuse}
-use Rattle.groupcalls.specs.Calls.{gate, inRange, addTo, addAt, addIn, addNew, addBy, add, collectAt, collectBy, collect, sweptGroup}
+use Rattle.groupcalls.specs.Answer.{swept, collected, Outcome, refuse}
+use Rattle.groupcalls.specs.Calls.{gate, inRange, addTo, addIn, addNew, addBy, add, collectBy, collect, sweptGroup}
 
 -- ---- a fragment in its ranges
 

@@ -1,7 +1,5 @@
 -- Every public function leaves one outcome and asks nothing.
-use Prim.Native.Nat.{ℕ}
 use mathlib.Core.Path.{_≡_, refl, sym, ap, _∙_}
-use mathlib.Core.List.{List}
 use Rattle.octets.specs.Unique.{One, Free}
 use Rattle.groupcalls.specs.declared.Answer.{Answer}
 use Rattle.groupcalls.specs.declared.Served.{Served}

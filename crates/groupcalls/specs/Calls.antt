@@ -1,8 +1,8 @@
 -- Document 01, "Fragments": the calls on the groups, with the refusals in the order of the paper's table, 40 first, then 23, and 5 last.
 use Prim.Native.Nat.{ℕ, _-_}
-use mathlib.Core.Bool.{Bool, true, false}
+use mathlib.Core.Bool.{Bool, true}
 use mathlib.Core.List.{map}
-use lib.ListN.{length, getD, set, replicate}
+use lib.ListN.{getD, set, replicate}
 use Rattle.octets.specs.Words.{if_then_else_, _and_, no, between, _<?_, _≤?_, _=?_}
 use Rattle.refusals.specs.Numbers.{stateBroken, storeLength, fragmentMalformed, otherTotal, fragmentHeld, noFreeGroup, notComplete, bufferTooShort}
 use Rattle.groupkeys.specs.declared.Key.{Key}

@@ -1,18 +1,18 @@
 -- A key and its originator: the originator is copied to the front of zeros, and is read back from there.
-use mathlib.Core.Path.{_≡_, refl, sym, ap, _∙_}
-use Prim.Native.Nat.{ℕ, zero, suc, _+_, _-_, _≤_, _<_}
+use mathlib.Core.Path.{_≡_, refl, ap, _∙_}
+use Prim.Native.Nat.{ℕ, zero, suc, _+_, _-_, _≤_}
 use native.Mathlib.Omega.{arith}
-use mathlib.Core.Bool.{Bool, true, false}
-use mathlib.Core.List.{List, [], _∷_, _++_}
-use lib.ListN.{length, take, drop, replicate, length-append, length-drop, length-replicate, drop-of-length-le}
+use mathlib.Core.Bool.{Bool, true}
+use mathlib.Core.List.{List}
+use lib.ListN.{length, drop, replicate, length-append, length-drop, length-replicate, drop-of-length-le}
 use lib.Seq.{take-append-seam, drop-append-seam}
 use borrow.Author.Tests.{eq-eqb, le-leb}
-use Rattle.octets.specs.Words.{_and_, no, every, _≤?_, _=?_}
+use Rattle.octets.specs.Words.{_and_}
 use Rattle.octets.specs.Bytes.{front, placed}
 use Rattle.octets.proofs.Tests.{and-both}
 use Rattle.octets.proofs.Lists.{placed-in}
 use Rattle.groupkeys.specs.declared.Key.{Key}
-use Rattle.groupkeys.specs.Key.{originatorOf, isOriginator, isMaster, zeros, keepsKey, keyOf}
+use Rattle.groupkeys.specs.Key.{isOriginator, isMaster, zeros, keepsKey, keyOf}
 
 -- the code's key is that of its originator and master id
 pub key-is : (o a : List ℕ) (master : ℕ) → a ≡ placed o 0 (replicate 12 0) → length o ≤ 12

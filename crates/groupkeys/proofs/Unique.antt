@@ -1,5 +1,5 @@
 -- Every public function leaves one outcome and asks nothing.
-use mathlib.Core.Path.{_≡_, refl, sym, _∙_}
+use mathlib.Core.Path.{refl, sym, _∙_}
 use Rattle.octets.specs.Unique.{One, Free}
 use Rattle.groupkeys.proofs.no_key.Kinds as no-key-kinds
 use Rattle.groupkeys.proofs.no_key.Reads as no-key-reads

@@ -1,6 +1,6 @@
 -- Document 01, "Fragments": "a group's key is originator (may be absent) and master id". What a key is, when two are equal, and the rules that it keeps.
 use Prim.Native.Nat.{ℕ}
-use mathlib.Core.Bool.{Bool, true, false}
+use mathlib.Core.Bool.{Bool, false}
 use mathlib.Core.List.{List, []}
 use lib.ListN.{length, take, drop, replicate}
 use Rattle.octets.specs.Words.{if_then_else_, _and_, no, every, _<?_, _≤?_, _=?_}

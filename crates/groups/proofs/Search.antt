@@ -1,18 +1,18 @@
 -- Searches in the groups and in a group's fragments: what a turn of each loop comes to, and where what was found stands.
-use mathlib.Core.Path.{_≡_, refl, sym, ap, _∙_}
+use mathlib.Core.Path.{_≡_, sym, _∙_}
 use Prim.Native.Nat.{ℕ, suc, _+_, _≤_, _<_, min}
 use native.Mathlib.Omega.{arith}
 use mathlib.Core.Bool.{Bool, true, false}
 use mathlib.Core.List.{List, [], _∷_, map}
 use lib.ListN.{length, getD, take, drop, length-map, length-take, drop-of-length-le}
 use lib.Seq.{getD-take}
-use Rattle.octets.specs.Words.{if_then_else_, _and_, no, every, some}
+use Rattle.octets.specs.Words.{if_then_else_, _and_}
 use Rattle.octets.proofs.Tests.{and-not-left, and-next, no-true, no-false}
-use Rattle.octets.proofs.Lists.{drop-next, every-next, every-not}
+use Rattle.octets.proofs.Lists.{drop-next}
 use Rattle.groups.specs.declared.Piece.{Piece}
 use Rattle.groups.specs.declared.Group.{Group}
 use Rattle.groups.specs.declared.Found.{Found}
-use Rattle.groups.specs.Groups.{noPiece, isHeld, bytesIn, keepsPiece, keepsPieces, twice, distinct, first}
+use Rattle.groups.specs.Groups.{noPiece, keepsPiece, keepsPieces, twice, distinct, first}
 
 -- what owning a value tells of an array of structs in it
 pub unmapped : (X Y : Type 0) (f : X → Y) (l : List X) (n : ℕ) → length (map f l) ≡ n → length l ≡ n

@@ -1,5 +1,5 @@
 -- Every public function leaves one outcome and asks nothing.
-use mathlib.Core.Path.{_≡_, refl, sym, _∙_}
+use mathlib.Core.Path.{refl, sym, _∙_}
 use Rattle.octets.specs.Unique.{One, Free}
 use Rattle.groups.proofs.Groups.new.Kinds as new-kinds
 use Rattle.groups.proofs.Groups.new.Reads as new-reads

@@ -5,7 +5,7 @@ use native.Mathlib.Omega.{arith}
 use borrow.Author.Needs.{needs}
 use lib.ListN.{length, take, drop, getD}
 use Rattle.octets.specs.Bytes.{placed}
-use Rattle.groups.specs.Groups.{noPiece, fragments, bytesIn, joinedLength}
+use Rattle.groups.specs.Groups.{place, noPiece, fragments, bytesIn, joinedLength}
 use Rattle.groups.proofs.Search.{unmapped, fragments-end, fragments-next}
 use Rattle.fragments.specs.Store.{joinedFrom, joined}
 use Rattle.fragments.proofs.Joins.{short-at, part-bytes, length-rest, join-next, join-end}
@@ -69,7 +69,7 @@ loop-again c =
     let b = ap bytesIn e in
     let l = length-rest (at-args .store .now) (at-args .g) (at-pre .0) (at-pre .1) x (at-loop .i + 1) (omega arith) (at-loop .inv .0) (at-pre .2) in
     let w = part-bytes (at-args .store .now) (at-args .g) (at-loop .i) (getD (x .pieces) (at-loop .i) noPiece) (at-wide .result) (at-pre .0) (omega arith) (at-pre .1) q (at-wide .ensures) in
-    let from = (16 * at-args .g + at-loop .i) * 1024 in
+    let from = (16 * at-args .g + at-loop .i) * place in
     let n = join-next (at-args .store .now) (at-args .g) (at-loop .i) (at-loop .at) (at-wide .result) (drop (at-loop .i) (fragments x)) (drop (at-loop .i + 1) (fragments x)) (getD (x .pieces) (at-loop .i) noPiece) (take (from + at-wide .result - from) (drop from (at-args .store .now))) (at-loop .out) _ e (w .0) (at-copy-at .ensures .1) (w .1) (omega arith) in
     (at-loop .inv .0, n .0 ∙ at-loop .inv .1, omega arith, n .1 ∙ at-loop .inv .3, search needs)
 
