@@ -24,7 +24,8 @@ use Rattle.groupcalls.proofs.Tests.{Ranged, pieces-kept, group-kept}
 use Rattle.groupcalls.proofs.Moves.{Move, joining, opening, add-moves, Taking, taking, collect-takes}
 use Rattle.fragments.specs.Store.{placeOf, storeAfter, outAfter}
 use Rattle.assembly.specs.History.{Names, named, keyFor, Arrival, fragment, Call, adding, collecting, sweeping, House, outcome, bytesAfter, after, History, Reached, fresh, next, firstTime, accepted, withCall, since, bufferAfter, Delivered}
-use Rattle.assembly.proofs.Keeps.{empty-keeps, add-keeps, collect-keeps, sweep-keeps, some-at, free-key, used-key, total-kept}
+use Rattle.assembly.proofs.Rules.{some-at, free-key, used-key, total-kept}
+use Rattle.assembly.proofs.Keeps.{empty-keeps, add-keeps, collect-keeps, sweep-keeps}
 use Rattle.assembly.proofs.Parts.{parts-none, parts-add}
 use Rattle.assembly.proofs.Sound.{Match, match-complete, match-joined, Good, good-empty, good-add, good-collect, good-sweep, shorts, has-same, has-other}
 

@@ -20,7 +20,7 @@ use Rattle.groupcalls.proofs.Tests.{kept, pieces-kept, group-kept, collect-pass
 use Rattle.groupcalls.proofs.Moves.{first-at, first-none}
 use Rattle.fragments.proofs.Joins.{length-rest}
 use Rattle.assembly.specs.History.{Names, named, keyFor, collecting, House, outcome, History, Reached, whole, inOrder, accepted, since}
-use Rattle.assembly.proofs.Keeps.{some-at, free-key, used-key}
+use Rattle.assembly.proofs.Rules.{some-at, free-key, used-key}
 use Rattle.assembly.proofs.Sound.{match-complete, match-joined, Good}
 use Rattle.assembly.proofs.Chain.{sound}
 

@@ -1,4 +1,5 @@
--- Theorems of the house store.
+-- Theorems of the house store: Keeps, Refusals, Others, Chain and Gives; the other files are the laws behind them.
+pub mod Rules
 pub mod Keeps
 pub mod Refusals
 pub mod Places

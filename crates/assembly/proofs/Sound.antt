@@ -23,7 +23,7 @@ use Rattle.groupcalls.proofs.Moves.{not-free}
 use Rattle.fragments.specs.Store.{placeOf, joined}
 use Rattle.fragments.proofs.Joins.{short-at}
 use Rattle.assembly.specs.History.{Arrival, fragment, isNumber, numbers, joinedBy, totalOf, firstTime, whole, stale, inOrder, agreed}
-use Rattle.assembly.proofs.Keeps.{some-at, free-key, used-key, total-kept}
+use Rattle.assembly.proofs.Rules.{some-at, free-key, used-key, total-kept}
 use Rattle.assembly.proofs.Parts.{Parts, parts-stay, held-whole, joined-whole}
 
 -- ---- a group has a key, or another
