@@ -7,9 +7,9 @@ use mathlib.Core.Bool.{Bool, true, false}
 use mathlib.Core.List.{List, [], _∷_, map}
 use lib.ListN.{length, getD, getD-replicate}
 use borrow.Author.Tests.{eq-eqb}
-use Rattle.octets.specs.Words.{if_then_else_, no, every, _=?_}
+use Rattle.octets.specs.Words.{if_then_else_, _and_, no, every, between, _=?_}
 use Rattle.octets.specs.Bytes.{front, placed}
-use Rattle.octets.proofs.Tests.{and-both, true-not-false}
+use Rattle.octets.proofs.Tests.{and-both, true-not-false, inside}
 use Rattle.refusals.specs.Numbers.{stateBroken}
 use Rattle.groupkeys.specs.declared.Key.{Key}
 use Rattle.groupkeys.specs.Key.{sameKey}
@@ -51,7 +51,9 @@ joined-match l g x store f m s r h e long short new =
     record {
       filled = omega arith;
       total = sym e;
-      agree = and-both _ _ (eq-eqb (f .total) (f .total) refl) (ap (λ (c : ℕ). every (λ a. a .total =? c) l) (sym e) ∙ ap (λ (c : ℕ). every (λ a. a .total =? c) l) (sym (m .total)) ∙ m .agree);
+      agree =
+          and-both _ _ (and-both _ _ (eq-eqb (f .total) (f .total) refl) (inside 1 (f .total) (f .number) (r .from) (r .to)))
+          (ap (λ (c : ℕ). every (λ a. a .total =? c and between 1 (a .total) (a .number)) l) (sym e ∙ sym (m .total)) ∙ m .agree);
       began = first-stays f l (m .filled) ∙ m .began;
       parts = parts-add l g (x .pieces) store f s (r .size) h (r .from) (omega (arith, r .to, r .most)) long short new (m .parts);
     }
@@ -63,7 +65,7 @@ opened-match j g store f s r h =
     record {
       filled = omega arith;
       total = refl;
-      agree = and-both _ _ (eq-eqb (f .total) (f .total) refl) refl;
+      agree = and-both _ _ (and-both _ _ (eq-eqb (f .total) (f .total) refl) (inside 1 (f .total) (f .number) (r .from) (r .to))) refl;
       began = refl;
       parts =
           parts-add [] g (opened j (fragment f) .pieces) store f s (r .size) h (r .from) (omega (arith, r .to, r .most)) refl

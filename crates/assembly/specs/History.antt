@@ -4,7 +4,7 @@ use Prim.Native.Nat.{ℕ, zero, suc, _-_, _≤_}
 use mathlib.Core.Bool.{Bool, true, false}
 use mathlib.Core.List.{List, [], _∷_, _++_}
 use lib.ListN.{length}
-use Rattle.octets.specs.Words.{if_then_else_, _and_, no, every, some, _≤?_, _=?_}
+use Rattle.octets.specs.Words.{if_then_else_, _and_, no, every, some, between, _≤?_, _=?_}
 use Rattle.octets.specs.Bytes.{front}
 use Rattle.groupkeys.specs.declared.Key.{Key}
 use Rattle.groupkeys.specs.declared.Named.{Named}
@@ -125,9 +125,9 @@ abbrev pub once : List Arrival → Bool
 once [] = true
 once (f ∷ rest) = no (some (isNumber (f .number)) rest) and once rest
 
--- all tell the same M
+-- all tell the same M, and have a number from 1 to M
 abbrev pub agreed : List Arrival → Bool
-agreed l = every (λ f. f .total =? totalOf l) l
+agreed l = every (λ f. f .total =? totalOf l and between 1 (f .total) (f .number)) l
 
 abbrev pub accepted : Said → Bool
 accepted (refused n) = false
@@ -154,7 +154,7 @@ bufferAfter w a out = outAfter (outcome w (collecting a out) .answer) (w .groups
 
 -- `Delivered l out buffer`: a buffer that held `out` holds, at its front, the bytes of the fragments l, joined in the order of their numbers
 pub record Delivered (l : List Arrival) (out buffer : List ℕ) : Type 0 where
-  -- each of the fragments 1 to M is among them, none twice, and all tell the same M
+  -- each of the fragments 1 to M is among them, none twice, and no other; all tell the same M
   pub all : whole l ≡ true
   pub single : once l ≡ true
   pub agree : agreed l ≡ true
