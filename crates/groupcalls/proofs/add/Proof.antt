@@ -3,7 +3,6 @@ use mathlib.Core.Path.{_≡_, sym, _∙_}
 use native.Mathlib.Omega.{arith}
 use borrow.Author.Needs.{needs}
 use lib.ListN.{length}
-use Rattle.octets.specs.Words.{if_then_else_}
 use Rattle.groups.specs.Groups.{hasKey}
 use Rattle.groups.proofs.Search.{unmapped, first-bound}
 use Rattle.groupcalls.specs.Calls.{gate}

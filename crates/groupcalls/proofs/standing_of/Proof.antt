@@ -2,7 +2,6 @@
 use mathlib.Core.Path.{sym, _∙_}
 use borrow.Author.Needs.{needs}
 use borrow.Author.Tests.{lt-ltb, le-ltb, not-true, not-false}
-use Rattle.octets.specs.Words.{if_then_else_}
 use Rattle.octets.proofs.Tests.{if-yes, if-no, and-next, and-not-left, no-true, no-false}
 use Rattle.groups.specs.Groups.{complete, groupAt}
 use Rattle.groupcalls.specs.Calls.{standing}

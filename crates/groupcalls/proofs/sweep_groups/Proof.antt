@@ -3,7 +3,6 @@ use mathlib.Core.Path.{_≡_, sym, _∙_}
 use borrow.Author.Needs.{needs}
 use borrow.Author.Tests.{not-true, not-false}
 use lib.ListN.{length}
-use Rattle.octets.specs.Words.{if_then_else_}
 use Rattle.octets.proofs.Tests.{if-yes, if-no, no-true, no-false}
 use Rattle.groups.proofs.Search.{unmapped}
 use Rattle.groupcalls.specs.Calls.{sweep}

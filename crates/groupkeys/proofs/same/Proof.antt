@@ -2,7 +2,6 @@
 use mathlib.Core.Path.{sym, _∙_}
 use borrow.Author.Needs.{needs}
 use borrow.Author.Tests.{ne-eqb, not-true, not-false}
-use Rattle.octets.specs.Words.{if_then_else_}
 use Rattle.octets.proofs.Tests.{and-not-left, no-true, no-false}
 use Rattle.groupkeys.specs.Key.{sameKey}
 use Rattle.groupkeys.proofs.SameKey.{by-absent, by-one, by-calls}

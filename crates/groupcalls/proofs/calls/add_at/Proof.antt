@@ -3,7 +3,6 @@ use mathlib.Core.Path.{sym, _∙_}
 use native.Mathlib.Omega.{arith}
 use borrow.Author.Needs.{needs}
 use borrow.Author.Tests.{eq-eqb, ne-eqb}
-use Rattle.octets.specs.Words.{if_then_else_}
 use Rattle.octets.proofs.Tests.{if-yes, if-no, no-true, no-false}
 use Rattle.groupcalls.proofs.Tests.{ranged}
 use Rattle.groupcalls.proofs.calls.add_at.Statement.{statement}

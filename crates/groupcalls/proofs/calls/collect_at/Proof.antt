@@ -3,7 +3,6 @@ use mathlib.Core.Path.{sym, _∙_}
 use native.Mathlib.Omega.{arith}
 use borrow.Author.Needs.{needs}
 use borrow.Author.Tests.{lt-ltb, le-ltb, not-true, not-false}
-use Rattle.octets.specs.Words.{if_then_else_}
 use Rattle.octets.proofs.Tests.{if-yes, if-no, no-true, no-false}
 use Rattle.groups.specs.Groups.{joinedLength, groupAt}
 use Rattle.groupcalls.proofs.Tests.{freed-at}

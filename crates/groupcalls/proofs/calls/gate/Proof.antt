@@ -2,7 +2,7 @@
 use mathlib.Core.Path.{sym, _∙_}
 use borrow.Author.Needs.{needs}
 use borrow.Author.Tests.{lt-ltb, le-ltb, eq-eqb, ne-eqb, not-true, not-false}
-use Rattle.octets.specs.Words.{if_then_else_, _and_}
+use Rattle.octets.specs.Words.{_and_}
 use Rattle.octets.proofs.Tests.{if-yes, if-no, no-true, no-false}
 use Rattle.groupcalls.specs.Calls.{gate}
 use Rattle.groupcalls.proofs.Tests.{ranged}

@@ -1,7 +1,6 @@
 -- M, then N, then the length.
 use mathlib.Core.Path.{sym, _∙_}
 use lib.ListN.{length}
-use Rattle.octets.specs.Words.{if_then_else_}
 use Rattle.octets.proofs.Tests.{and-next, and-not-left, inside, below, above}
 use Rattle.groupcalls.specs.Calls.{inRange}
 use Rattle.groupcalls.proofs.calls.in_range.Statement.{statement}

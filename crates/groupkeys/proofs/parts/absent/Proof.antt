@@ -2,7 +2,6 @@
 use mathlib.Core.Path.{sym, _∙_}
 use borrow.Author.Needs.{needs}
 use borrow.Author.Tests.{lt-ltb, le-ltb}
-use Rattle.octets.specs.Words.{if_then_else_}
 use Rattle.octets.proofs.Tests.{if-yes, if-no, no-true, no-false}
 use Rattle.groupkeys.specs.Key.{keyOf, namedOf}
 use Rattle.groupkeys.proofs.parts.absent.Statement.{statement}
