@@ -30,10 +30,10 @@ use Rattle.records.specs.Record.{text, names, key, message, messages, st
 
 -- ---- texts and the key
 
-abbrev any : ℕ → Bool
+abbrev pub any : ℕ → Bool
 any b = true
 
-all-any : (l : List ℕ) → every any l ≡ true
+pub all-any : (l : List ℕ) → every any l ≡ true
 all-any [] = refl
 all-any (b ∷ l) = all-any l
 
@@ -54,6 +54,12 @@ names-right x e =
     let b = and-right (text .ok (x .0) and text .ok (x .1)) _ e in
     (and-left (callsign (x .0)) _ b, and-right (callsign (x .0)) _ b)
 
+-- what is left of an array of one value
+pub drop-same : {A : Type 0} (a : A) (n m : ℕ) → drop n (replicate m a) ≡ replicate (m - n) a
+drop-same a zero m = ap (λ (k : ℕ). replicate k a) (let z : m ≡ m - 0 = omega arith in z)
+drop-same a (suc n) zero = ap (λ (k : ℕ). replicate k a) (let z : 0 ≡ 0 - suc n = omega arith in z)
+drop-same a (suc n) (suc m) = drop-same a n m ∙ ap (λ (k : ℕ). replicate k a) (let z : m - n ≡ suc m - suc n = omega arith in z)
+
 -- a name in its array is the front of zeros
 name-packs : (size : ℕ) (valid : List ℕ → Bool) (n : ℕ) (a : List ℕ) → holdsName size valid n a ≡ true → (front (take n a) (replicate size 0) ≡ a) × (length (take n a) ≡ n)
 name-packs size valid n a e =
@@ -63,12 +69,7 @@ name-packs size valid n a e =
     let z = and-right (valid (take n a)) _ (and-right (n ≤? size) _ f) in
     let t : length (take n a) ≡ n = length-take-le n a (omega arith) in
     let d : drop n a ≡ replicate (size - n) 0 = zeros-are (drop n a) (size - n) (length-drop n a ∙ ap (λ (k : ℕ). k - n) l) z in
-    (ap (λ (r : List ℕ). take n a ++ r) (ap (λ (k : ℕ). drop {A = ℕ} k (replicate size 0)) t ∙ drop-zeros n size ∙ sym d) ∙ take-append-drop n a, t)
-  where
-    drop-zeros : (n m : ℕ) → drop {A = ℕ} n (replicate m 0) ≡ replicate (m - n) 0
-    drop-zeros zero m = ap (λ (k : ℕ). replicate k 0) (let z : m ≡ m - 0 = omega arith in z)
-    drop-zeros (suc n) zero = ap (λ (k : ℕ). replicate k 0) (let z : 0 ≡ 0 - suc n = omega arith in z)
-    drop-zeros (suc n) (suc m) = drop-zeros n m ∙ ap (λ (k : ℕ). replicate k 0) (let z : m - n ≡ suc m - suc n = omega arith in z)
+    (ap (λ (r : List ℕ). take n a ++ r) (ap (λ (k : ℕ). drop {A = ℕ} k (replicate size 0)) t ∙ drop-same 0 n size ∙ sym d) ∙ take-append-drop n a, t)
 
 key-packs : (k : Key) → keepsKey k ≡ true → keyOf (originatorOf k) (streamIdOf k) ≡ k
 unfolding keepsKey keyOf
@@ -187,22 +188,22 @@ pub message-size : (m : Held) → length (message .print m) ≡ 12
 unfolding message
 message-size m = rw (length-append, length-append, length-bytes, length-bytes, length-bytes)
 
-many-size : (l : List Held) → length (manyPrint message l) ≡ 12 * length l
+pub many-size : (l : List Held) → length (manyPrint message l) ≡ 12 * length l
 many-size [] = refl
 many-size (m ∷ l) = length-append (message .print m) (manyPrint message l) ∙ (omega (arith, message-size m, many-size l))
 
+pub key-size : (k : Key) → length (key .print k) ≡ 2 + length (originatorOf k) + length (streamIdOf k)
+unfolding key
+key-size k = length-append (text .print (originatorOf k)) (text .print (streamIdOf k)) ∙ (omega (arith, text-size (originatorOf k), text-size (streamIdOf k)))
+
+pub row-size : (r : Row) → length (row .print r) ≡ 17 + 12 * length (streamOf r .held)
+unfolding row messages
+row-size r = rw (length-append, length-append, length-append, length-append, length-bytes, length-bytes, length-bytes, length-bytes, many-size) (omega arith)
+
 module _ (k : Key) (r : Row) where
-  pub key-size : length (key .print k) ≡ 2 + length (originatorOf k) + length (streamIdOf k)
-  unfolding key
-  key-size = length-append (text .print (originatorOf k)) (text .print (streamIdOf k)) ∙ (omega (arith, text-size (originatorOf k), text-size (streamIdOf k)))
-
-  pub row-size : length (row .print r) ≡ 17 + 12 * length (streamOf r .held)
-  unfolding row messages
-  row-size = rw (length-append, length-append, length-append, length-append, length-bytes, length-bytes, length-bytes, length-bytes, many-size) (omega arith)
-
   pub body-size : length (body .print (k, r)) ≡ 19 + length (originatorOf k) + length (streamIdOf k) + 12 * length (streamOf r .held)
   unfolding body
-  body-size = length-append (key .print k) (row .print r) ∙ (omega (arith, key-size, row-size))
+  body-size = length-append (key .print k) (row .print r) ∙ (omega (arith, key-size k, row-size r))
 
   -- at most 478 bytes: with its mark and number 481
   pub body-most : keepsKey k ≡ true → keepsRow r ≡ true → length (body .print (k, r)) ≤ 478
