@@ -6,3 +6,6 @@ pub mod Back
 pub mod Size
 pub mod Keeps
 pub mod Worked
+pub mod Reading
+pub mod Writing
+pub mod Unique
