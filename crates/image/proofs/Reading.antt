@@ -132,9 +132,9 @@ module _ (d : List ℕ) where
             room = walk-room t;
             size = length-set slots i x ∙ g .size;
             left = g .left
-              ∙ rw (step, slot-found (slotFrom i (drop at d)) r es t) (after-turn (take i slots) at x u y)
-              ∙ ap (λ (q : List Slot). after q (at + u) y) (sym (taken-more slots i x (omega (arith, g .size))))
-              ∙ ap (λ (q : List ℕ). after (take (i + 1) (set slots i x)) (at + u) (slotsFrom (32 - (i + 1)) (i + 1) q)) (drop-drop u at d);
+                ∙ rw (step, slot-found (slotFrom i (drop at d)) r es t) (after-turn (take i slots) at x u y)
+                ∙ ap (λ (q : List Slot). after q (at + u) y) (sym (taken-more slots i x (omega (arith, g .size))))
+                ∙ ap (λ (q : List ℕ). after (take (i + 1) (set slots i x)) (at + u) (slotsFrom (32 - (i + 1)) (i + 1) q)) (drop-drop u at d);
           }
 
   pub walk-end : (slots : List Slot) (at i : ℕ) → Walk slots at i → 32 ≤ i → slotsFrom 32 0 d ≡ got slots at

@@ -10,15 +10,15 @@ use streams::Slot;
 use streams::Table;
 
 // How many bytes a row's record has with its mark and number; none where the row is free.
-fn record_size(x: Slot) -> usize
-    requires { ⌜ keepsSlot x ≡ true ⌝ }
-    ensures { λ r. ⌜ (r ≡ length (recordOf 0 x)) × (r ≤ 481) ⌝ }
+fn record_size(slot: Slot) -> usize
+    requires { ⌜ keepsSlot slot ≡ true ⌝ }
+    ensures { λ r. ⌜ (r ≡ length (recordOf 0 slot)) × (r ≤ 481) ⌝ }
 {
-    if !x.used {
+    if !slot.used {
         return 0;
     }
-    let key = x.key;
-    let row = x.row;
+    let key = slot.key;
+    let row = slot.row;
     3 + records::size(key, row)
 }
 
