@@ -1,5 +1,5 @@
 -- The rows of an image: what is written of them is read back, and what was read is what would be written.
-use Prim.Native.Nat.{ℕ, zero, suc, _+_, _<_, _≤_}
+use Prim.Native.Nat.{ℕ, zero, suc, _+_, _<_}
 use native.Mathlib.Omega.{arith}
 use mathlib.Core.Path.{_≡_, refl, sym, ap, _∙_}
 use mathlib.Core.Bool.{Bool, true, false}
@@ -8,18 +8,16 @@ use mathlib.Core.Logic.{_⊎_, inl, inr}
 use lib.ListN.{length, take, drop, length-append, take-append-drop}
 use lib.Seq.{drop-append-seam, drop-drop}
 use borrow.Author.Tests.{eq-eqb, ne-eqb}
-use Rattle.octets.specs.Words.{if_then_else_, _and_, every}
+use Rattle.octets.specs.Words.{if_then_else_, every}
 use Rattle.octets.specs.Bytes.{Bytes, same}
-use Rattle.octets.specs.Field.{Res, bad, got, bind}
+use Rattle.octets.specs.Field.{got, bind}
 use Rattle.octets.proofs.Tests.{if-yes, if-no, and-left, and-right}
 use Rattle.octets.proofs.Lists.{same-eq}
 use Rattle.octets.proofs.NumberLaws.{bytes-drop}
 use Rattle.octets.proofs.FieldLaws.{bound}
-use Rattle.keys.specs.declared.Key.{Key}
 use Rattle.keys.specs.Key.{keepsKey, isNoKey}
 use Rattle.keys.proofs.Names.{no-key}
-use Rattle.rows.specs.declared.Row.{Row}
-use Rattle.rows.specs.Row.{keepsRow, isNoRow}
+use Rattle.rows.specs.Row.{keepsRow}
 use Rattle.rows.proofs.Rules.{no-row}
 use Rattle.streams.specs.declared.Slot.{Slot}
 use Rattle.streams.specs.Table.{freeSlot, keepsSlot}

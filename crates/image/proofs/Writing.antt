@@ -3,10 +3,10 @@ use Prim.Native.Nat.{ℕ, _+_, _*_, _<_, _≤_}
 use native.Mathlib.Omega.{arith}
 use mathlib.Core.Path.{_≡_, refl, sym, ap, _∙_}
 use mathlib.Core.Bool.{Bool, true, false}
-use mathlib.Core.List.{List, [], _∷_, _++_}
+use mathlib.Core.List.{List, [], _++_}
 use lib.ListN.{length, drop, getD, length-append, drop-of-length-le}
 use borrow.Author.Tests.{lt-ltb, le-ltb}
-use Rattle.octets.specs.Words.{if_then_else_, every}
+use Rattle.octets.specs.Words.{if_then_else_}
 use Rattle.octets.specs.Bytes.{front, placed}
 use Rattle.octets.proofs.Tests.{if-yes, if-no, no-true, no-false}
 use Rattle.octets.proofs.Lists.{drop-next, every-at, placed-none}
@@ -20,7 +20,6 @@ use Rattle.records.specs.Record.{body}
 use Rattle.records.proofs.Behind.{placed-then, behind}
 use Rattle.image.specs.Answer.{written, SaveOutcome, unsaved}
 use Rattle.image.specs.Image.{rowMark, endRecord, recordOf, recordsFrom, openRows, imageOf, saveOf}
-use Rattle.image.proofs.Reading.{Rules}
 use Rattle.image.proofs.Size.{image-size}
 
 -- ---- one record

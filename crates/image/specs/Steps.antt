@@ -1,5 +1,4 @@
 -- What the private readers of an image answer. No public promise cites this file.
-use Prim.Native.Nat.{ℕ}
 use mathlib.Core.Bool.{true, false}
 use mathlib.Core.List.{List}
 use Rattle.octets.specs.Field.{Res, bad, got}

@@ -1,5 +1,5 @@
 -- What the steps of the reader come to: each part that was found, and each that was not.
-use Prim.Native.Nat.{ℕ, zero, suc, _+_, _-_, _<_, _≤_}
+use Prim.Native.Nat.{ℕ, _+_, _-_, _<_, _≤_}
 use native.Mathlib.Omega.{arith}
 use mathlib.Core.Path.{_≡_, refl, sym, ap, _∙_, subst}
 use mathlib.Core.Bool.{Bool, true, false}
@@ -8,13 +8,13 @@ use lib.ListN.{length, take, drop, set, replicate, length-drop, take-append-drop
 use lib.Seq.{take-all, drop-append-seam, drop-drop, length-take-le}
 use borrow.Author.Tests.{le-leb, lt-leb, leb-true, eq-eqb}
 use Rattle.octets.specs.Words.{if_then_else_, _and_, no, every, _≤?_}
-use Rattle.octets.specs.Field.{Res, bad, got, bind, Field, num, manyParse}
+use Rattle.octets.specs.Field.{Res, bad, got, bind, num, manyParse}
 use Rattle.octets.specs.Reading.{read8, read32, read64}
 use Rattle.octets.specs.declared.Read8.{Read8}
 use Rattle.octets.specs.declared.Read32.{Read32}
 use Rattle.octets.specs.declared.Read64.{Read64}
-use Rattle.octets.proofs.Tests.{if-yes, if-no, and-both, and-next}
-use Rattle.octets.proofs.FieldLaws.{bound, picked, many-laws}
+use Rattle.octets.proofs.Tests.{if-yes, if-no, and-next}
+use Rattle.octets.proofs.FieldLaws.{picked, many-laws}
 use Rattle.callsigns.specs.Callsign.{callsign}
 use Rattle.names.specs.Texts.{streamId}
 use Rattle.keys.specs.declared.Key.{Key}
@@ -34,8 +34,7 @@ use Rattle.records.specs.declared.parts.Heading.{Heading}
 use Rattle.records.specs.declared.parts.KeyRead.{KeyRead}
 use Rattle.records.specs.declared.parts.MessagesRead.{MessagesRead}
 use Rattle.records.specs.declared.parts.RowRead.{RowRead}
-use Rattle.records.specs.declared.Reading.{Reading}
-use Rattle.records.specs.Record.{text, names, key, message, messages, stream, row, body, readingOf}
+use Rattle.records.specs.Record.{text, key, message, messages, row, body}
 use Rattle.records.specs.Steps.{TextAt, MessageAt, HeadIs, HeadAt, keyRead, messagesRead, rowRead}
 use Rattle.records.proofs.Laws.{drop-same, all-any, key-laws, message-laws, body-laws}
 use Rattle.records.proofs.Turns.{Turn, turn-bad, turn-more, last-turn, many-length}

@@ -1,16 +1,16 @@
 -- The record's fields keep the laws of fields, and a key and a row that keep their rules are what a record holds.
-use Prim.Native.Nat.{ℕ, zero, suc, _+_, _-_, _*_, _^_, _<_, _≤_}
+use Prim.Native.Nat.{ℕ, zero, suc, _+_, _-_, _*_, _^_, _≤_}
 use native.Mathlib.Omega.{arith}
 use mathlib.Core.Path.{_≡_, refl, sym, ap, _∙_}
-use mathlib.Core.Bool.{Bool, true, false}
+use mathlib.Core.Bool.{Bool, true}
 use mathlib.Core.List.{List, [], _∷_, _++_, map}
-use lib.ListN.{length, take, drop, replicate, length-append, length-drop, length-replicate, take-append-drop}
+use lib.ListN.{length, take, drop, replicate, length-append, length-drop, take-append-drop}
 use lib.Seq.{length-take-le}
-use borrow.Author.Tests.{eqb-true, eq-eqb, lt-ltb, ltb-true, le-leb, leb-true}
-use Rattle.octets.specs.Words.{_and_, every, _<?_, _≤?_, _=?_}
+use borrow.Author.Tests.{eqb-true, eq-eqb, lt-ltb, le-leb, leb-true}
+use Rattle.octets.specs.Words.{_and_, every, _≤?_, _=?_}
 use Rattle.octets.specs.Bytes.{front}
 use Rattle.octets.specs.Numbers.{littleBytes}
-use Rattle.octets.specs.Field.{Field, num, raw, only, seq, many, manyPrint}
+use Rattle.octets.specs.Field.{num, raw, only, seq, many, manyPrint}
 use Rattle.octets.proofs.Tests.{and-left, and-right, and-both}
 use Rattle.octets.proofs.NumberLaws.{length-bytes}
 use Rattle.octets.proofs.FieldLaws.{Laws, num-laws, raw-laws, only-laws, seq-laws, tagged-laws, held-laws, many-laws}
@@ -19,11 +19,11 @@ use Rattle.callsigns.proofs.Lengths.{callsign-short}
 use Rattle.names.specs.Texts.{streamId}
 use Rattle.names.proofs.Lengths.{streamId-short}
 use Rattle.keys.specs.declared.Key.{Key}
-use Rattle.keys.specs.Key.{originatorOf, streamIdOf, keyOf, zeros, holdsName, keepsKey}
+use Rattle.keys.specs.Key.{originatorOf, streamIdOf, keyOf, holdsName, keepsKey}
 use Rattle.keys.proofs.Names.{zeros-are, originator-back, id-back, key-keeps, key-names}
 use Rattle.rows.specs.declared.Held.{Held}
 use Rattle.rows.specs.declared.Row.{Row}
-use Rattle.rows.specs.Stream.{Stream, words, word, keeps}
+use Rattle.rows.specs.Stream.{Stream, words, keeps}
 use Rattle.rows.specs.Row.{streamOf, rowOf, keepsRow}
 use Rattle.rows.proofs.Rules.{kept-row, packs, unpacks, keeps-row, keep, held-most}
 use Rattle.records.specs.Record.{text, names, key, message, messages, stream, row, body}

@@ -6,7 +6,7 @@ use native.Mathlib.Numerals.{add-one}
 use mathlib.Core.Path.{_≡_, refl, sym, ap, _∙_}
 use mathlib.Core.List.{List, [], _∷_, _++_, append-assoc, append-nil}
 use lib.ListN.{length, take, drop, set, length-set}
-use lib.Seq.{take-suc-set, take-append-le, drop-set-lt, drop-drop, length-take-le}
+use lib.Seq.{take-suc-set, drop-set-lt, drop-drop}
 use Rattle.octets.specs.Field.{Res, bad, got, bind, Field, manyParse}
 use Rattle.octets.proofs.FieldLaws.{bound}
 

@@ -1,6 +1,6 @@
 -- Document 01, "The saved table": what the image has of one open row behind its mark and number, each part a field, in the paper's order.
 use Prim.Native.Nat.{ℕ}
-use mathlib.Core.Bool.{Bool, true, false}
+use mathlib.Core.Bool.{true, false}
 use mathlib.Core.List.{List}
 use lib.ListN.{length}
 use Rattle.octets.specs.Words.{_and_, _≤?_}
