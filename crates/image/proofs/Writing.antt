@@ -17,7 +17,7 @@ use Rattle.streams.specs.declared.Table.{Table}
 use Rattle.streams.specs.Table.{keepsSlot, keepsTable, pastSlot}
 use Rattle.streams.proofs.Lookups.{kept}
 use Rattle.records.specs.Record.{body}
-use Rattle.records.proofs.Behind.{placed-then, behind}
+use Rattle.recorder.proofs.Behind.{placed-then, behind}
 use Rattle.image.specs.Answer.{written, SaveOutcome, unsaved}
 use Rattle.image.specs.Image.{rowMark, endRecord, recordOf, recordsFrom, openRows, imageOf, saveOf}
 use Rattle.image.proofs.Size.{image-size}

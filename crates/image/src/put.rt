@@ -19,7 +19,7 @@ fn record_size(slot: Slot) -> usize
     }
     let key = slot.key;
     let row = slot.row;
-    3 + records::size(key, row)
+    3 + recorder::size(key, row)
 }
 
 pub(crate) fn records_size(t: Table) -> usize
@@ -48,7 +48,7 @@ fn put_record(x: Slot, i: u8, out: &mut [u8], at: usize)
     let row = x.row;
     let mark = [0x53u8, 0x54u8, i];
     octets::copy_at(&mark, out, at);
-    records::write(key, row, out, at + 3);
+    recorder::write(key, row, out, at + 3);
 }
 
 // The records of all open rows, in row order, at the buffer's front.

@@ -7,7 +7,6 @@ use lib.ListN.{replicate}
 use Rattle.rows.specs.Row.{blank}
 use Rattle.records.specs.Record.{message}
 use Rattle.records.specs.Steps.{messagesRead}
-use Rattle.records.proofs.Behind.{left}
 use Rattle.records.proofs.Turns.{Turn, first-turn}
 use Rattle.records.proofs.Found.{messages-stop, messages-room, messages-more, messages-end}
 use Rattle.records.proofs.parts.read_messages.Statement.{statement}

@@ -7,7 +7,6 @@ use borrow.Author.Tests.{not-true, not-false}
 use lib.ListN.{length}
 use Rattle.records.specs.Record.{row}
 use Rattle.records.specs.Steps.{rowRead}
-use Rattle.records.proofs.Behind.{left}
 use Rattle.records.proofs.Found.{heading-is, row-5, row-6, row-not, row-yes, room-used}
 use Rattle.records.proofs.parts.read_row.Statement.{statement}
 use Rattle.records.proofs.parts.read_row.Tie as tie

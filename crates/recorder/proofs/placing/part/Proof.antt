@@ -4,8 +4,8 @@ use native.Mathlib.Omega.{arith}
 use native.Mathlib.Nat.{sub-zero}
 use borrow.Author.Needs.{needs}
 use lib.Seq.{take-all}
-use Rattle.records.proofs.placing.part.Statement.{statement}
-use Rattle.records.proofs.placing.part.Tie as tie
+use Rattle.recorder.proofs.placing.part.Statement.{statement}
+use Rattle.recorder.proofs.placing.part.Tie as tie
 
 returns : tie.Need-returns
 returns c =

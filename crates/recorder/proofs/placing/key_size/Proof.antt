@@ -5,9 +5,9 @@ use mathlib.Core.List.{List}
 use native.Mathlib.Omega.{arith}
 use borrow.Author.Needs.{needs}
 use lib.ListN.{length, take, length-take}
 use Rattle.records.proofs.Laws.{key-size}
-use Rattle.records.proofs.placing.key_size.Statement.{statement}
-use Rattle.records.proofs.placing.key_size.Tie as tie
+use Rattle.recorder.proofs.placing.key_size.Statement.{statement}
+use Rattle.recorder.proofs.placing.key_size.Tie as tie
 
 sizes : (a b : List ℕ) (n m : ℕ) → length a ≡ 12 → length b ≡ 255 → length (take n a) + length (take m b) ≤ 267
 sizes a b n m e f = omega (arith, length-take n a, length-take m b)

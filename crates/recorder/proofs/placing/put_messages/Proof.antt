@@ -7,10 +7,10 @@ use lib.ListN.{length, take}
 use Rattle.octets.specs.Bytes.{placed}
 use Rattle.octets.specs.Field.{manyPrint}
 use Rattle.rows.proofs.Packing.{unmapped}
 use Rattle.records.specs.Record.{message}
-use Rattle.records.proofs.Behind.{left, left-room, left-turn, left-end}
-use Rattle.records.proofs.placing.put_messages.Statement.{statement}
-use Rattle.records.proofs.placing.put_messages.Tie as tie
+use Rattle.recorder.proofs.Behind.{left, left-room, left-turn, left-end}
+use Rattle.recorder.proofs.placing.put_messages.Statement.{statement}
+use Rattle.recorder.proofs.placing.put_messages.Tie as tie
 
 abbrev Inv-loop : tie.InvT-loop
 Inv-loop k out₀ at held i₀ out i = (length held ≡ 16) × (i ≤ k) × (length out ≡ length out₀) × (placed (left held k i) (at + 12 * i) out ≡ placed (manyPrint message (take k held)) at out₀)

@@ -4,9 +4,9 @@ use native.Mathlib.Omega.{arith}
 use borrow.Author.Needs.{needs}
 use lib.ListN.{length}
 use Rattle.keys.specs.Key.{streamIdOf}
-use Rattle.records.proofs.Behind.{key-fits, key-placed}
-use Rattle.records.proofs.placing.put_key.Statement.{statement}
-use Rattle.records.proofs.placing.put_key.Tie as tie
+use Rattle.recorder.proofs.Behind.{key-fits, key-placed}
+use Rattle.recorder.proofs.placing.put_key.Statement.{statement}
+use Rattle.recorder.proofs.placing.put_key.Tie as tie
 
 put-text-requires : tie.Need-put-text-requires
 put-text-requires c κs =

@@ -2,9 +2,9 @@
 use mathlib.Core.Path.{sym, _∙_}
 use native.Mathlib.Omega.{arith}
 use borrow.Author.Needs.{needs}
-use Rattle.records.proofs.Behind.{row-placed, row-fits}
-use Rattle.records.proofs.placing.put_row.Statement.{statement}
-use Rattle.records.proofs.placing.put_row.Tie as tie
+use Rattle.recorder.proofs.Behind.{row-placed, row-fits}
+use Rattle.recorder.proofs.placing.put_row.Statement.{statement}
+use Rattle.recorder.proofs.placing.put_row.Tie as tie
 
 put-messages-requires : tie.Need-put-messages-requires
 put-messages-requires c κs =

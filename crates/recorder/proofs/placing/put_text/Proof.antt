@@ -1,9 +1,9 @@
 -- The length, then the bytes behind it.
 use borrow.Author.Needs.{needs}
 use lib.ListN.{length}
-use Rattle.records.proofs.Behind.{text-placed}
-use Rattle.records.proofs.placing.put_text.Statement.{statement}
-use Rattle.records.proofs.placing.put_text.Tie as tie
+use Rattle.recorder.proofs.Behind.{text-placed}
+use Rattle.recorder.proofs.placing.put_text.Statement.{statement}
+use Rattle.recorder.proofs.placing.put_text.Tie as tie
 
 returns : tie.Need-returns
 returns c =

@@ -5,8 +5,8 @@ use lib.ListN.{length, take}
 use lib.Seq.{take-all}
 use Rattle.rows.proofs.Packing.{unmapped}
 use lib.Seq.{length-take-le}
-use Rattle.records.proofs.placing.held_count.Statement.{statement}
-use Rattle.records.proofs.placing.held_count.Tie as tie
+use Rattle.recorder.proofs.placing.held_count.Statement.{statement}
+use Rattle.recorder.proofs.placing.held_count.Tie as tie
 
 long : (c : tie.Start) → length (c .args .r .held) ≡ 16
 long c = search unmapped

@@ -1,10 +1,10 @@
 -- Seventeen bytes, and twelve for each message.
 use native.Mathlib.Omega.{arith}
 use borrow.Author.Needs.{needs}
 use Rattle.records.specs.Record.{message}
 use Rattle.records.proofs.Laws.{row-size}
-use Rattle.records.proofs.placing.row_size.Statement.{statement}
-use Rattle.records.proofs.placing.row_size.Tie as tie
+use Rattle.recorder.proofs.placing.row_size.Statement.{statement}
+use Rattle.recorder.proofs.placing.row_size.Tie as tie
 
 returns : tie.Need-returns
 returns c = (omega (arith, row-size (c .before .args .r), c .held-count .ensures .0), omega (arith, c .held-count .ensures .1))

@@ -6,11 +6,11 @@ use borrow.Author.Needs.{needs}
 use borrow.Author.Tests.{le-leb}
 use lib.ListN.{length}
 use Rattle.octets.proofs.Lists.{unplaced}
 use Rattle.records.specs.Record.{key, row, body}
 use Rattle.records.proofs.Laws.{key-size, row-size}
-use Rattle.records.proofs.Behind.{left, body-parts, body-placed}
-use Rattle.records.proofs.write.Statement.{statement}
-use Rattle.records.proofs.write.Tie as tie
+use Rattle.recorder.proofs.Behind.{left, body-parts, body-placed}
+use Rattle.recorder.proofs.write.Statement.{statement}
+use Rattle.recorder.proofs.write.Tie as tie
 
 returns : tie.Need-returns
 returns c =

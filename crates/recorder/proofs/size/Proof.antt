@@ -1,11 +1,11 @@
 -- The key's size and the row's.
 use native.Mathlib.Omega.{arith}
 use borrow.Author.Needs.{needs}
 use Rattle.records.specs.Record.{key, row}
 use Rattle.records.proofs.Laws.{key-size, row-size}
-use Rattle.records.proofs.Behind.{body-parts}
-use Rattle.records.proofs.size.Statement.{statement}
-use Rattle.records.proofs.size.Tie as tie
+use Rattle.recorder.proofs.Behind.{body-parts}
+use Rattle.recorder.proofs.size.Statement.{statement}
+use Rattle.recorder.proofs.size.Tie as tie
 
 returns : tie.Need-returns
 returns c =

@@ -1,8 +1,8 @@
 -- Three numbers, each behind the other.
 use borrow.Author.Needs.{needs}
-use Rattle.records.proofs.Behind.{message-placed}
-use Rattle.records.proofs.placing.put_message.Statement.{statement}
-use Rattle.records.proofs.placing.put_message.Tie as tie
+use Rattle.recorder.proofs.Behind.{message-placed}
+use Rattle.recorder.proofs.placing.put_message.Statement.{statement}
+use Rattle.recorder.proofs.placing.put_message.Tie as tie
 
 returns : tie.Need-returns
 returns c =
