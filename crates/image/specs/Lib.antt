@@ -1,0 +1,4 @@
+-- Document 01, "The saved table".
+pub mod Answer
+pub mod Image
+pub mod Steps

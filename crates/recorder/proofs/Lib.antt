@@ -1,0 +1,3 @@
+-- Parts written one behind the other.
+pub mod Behind
+pub mod Unique

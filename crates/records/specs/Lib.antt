@@ -1,0 +1,3 @@
+-- Document 01, "The saved table": one row's record.
+pub mod Record
+pub mod Steps
