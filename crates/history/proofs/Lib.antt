@@ -1,2 +1,4 @@
--- The cards hold.
+-- Demand 3; the cards hold.
 pub mod Cards
+pub mod Counting
+pub mod Sound
