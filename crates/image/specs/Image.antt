@@ -1,0 +1,88 @@
+-- Document 01, "The saved table": the image of a table, what an image says, and the two calls.
+use Prim.Native.Nat.{ℕ, zero, suc, _+_}
+use mathlib.Core.Bool.{Bool, true}
+use mathlib.Core.List.{List, [], _∷_, _++_}
+use mathlib.Core.Option.{Option, none, some}
+use lib.ListN.{length, take, drop}
+use Rattle.octets.specs.Words.{if_then_else_, _and_, no, _<?_}
+use Rattle.octets.specs.Bytes.{same, front}
+use Rattle.octets.specs.Field.{Res, bad, got, bind}
+use Rattle.refusals.specs.Numbers.{stateBroken, bufferTooShort, noSavedImage}
+use Rattle.keys.specs.declared.Key.{Key}
+use Rattle.rows.specs.declared.Row.{Row}
+use Rattle.rows.specs.Answer.{accepted, Outcome, refuse}
+use Rattle.streams.specs.declared.Slot.{Slot}
+use Rattle.streams.specs.declared.Table.{Table}
+use Rattle.streams.specs.Table.{freeSlot, keepsTable, count}
+use Rattle.records.specs.Record.{body}
+use Rattle.image.specs.Answer.{written, SaveOutcome, unsaved}
+
+-- ---- the image
+
+-- mark 53 54 and the row number
+abbrev pub rowMark : ℕ → List ℕ
+rowMark i = 0x53 ∷ 0x54 ∷ i ∷ []
+
+-- mark 53 45 and the row count
+abbrev pub endRecord : ℕ → List ℕ
+endRecord rows = 0x53 ∷ 0x45 ∷ rows ∷ []
+
+-- row i's record, where the row is open
+abbrev pub recordOf : ℕ → Slot → List ℕ
+recordOf i x = if x .used then rowMark i ++ body .print (x .key, x .row) else []
+
+-- the records of the rows from i on, in row order
+abbrev pub recordsFrom : ℕ → List Slot → List ℕ
+recordsFrom i [] = []
+recordsFrom i (x ∷ rest) = recordOf i x ++ recordsFrom (i + 1) rest
+
+-- how many rows are open
+abbrev pub openRows : List Slot → ℕ
+openRows = count (λ x. x .used)
+
+-- THE IMAGE of a table: for each open row, in row order, its record; last, the end record
+unfoldable pub imageOf : Table → List ℕ
+imageOf t = recordsFrom 0 (t .slots) ++ endRecord (openRows (t .slots))
+
+-- ---- what an image says
+
+-- a record's key and row, in an open row
+abbrev pub opened : Key × Row → Slot
+opened x = record { used = true; key = x .0; row = x .1 }
+
+-- row i: the record where the mark with its number stands, else free
+abbrev pub slotFrom : ℕ → List ℕ → Res Slot
+slotFrom i s = if same (take 3 s) (rowMark i) then bind (body .parse (drop 3 s)) (λ x n. got (opened x) (3 + n)) else got freeSlot 0
+
+-- k rows in row order, from i on
+abbrev pub slotsFrom : ℕ → ℕ → List ℕ → Res (List Slot)
+slotsFrom zero i s = got [] 0
+slotsFrom (suc k) i s = bind (slotFrom i s) (λ x n. bind (slotsFrom k (i + 1) (drop n s)) (λ rest m. got (x ∷ rest) (n + m)))
+
+-- nothing may stand behind the rows but their end record, and the table must keep the rules
+abbrev pub ended : List ℕ → Res (List Slot) → Option Table
+ended s bad = none
+ended s (got rows n) =
+    if same (drop n s) (endRecord (openRows rows)) and keepsTable (record { slots = rows }) then some (record { slots = rows }) else none
+
+-- the table whose image it is, if there is one
+unfoldable pub tableOf : List ℕ → Option Table
+tableOf s = ended s (slotsFrom 32 0 s)
+
+-- ---- the calls
+
+-- 40, then 5; else the image stands at the buffer's front, and the rest of the buffer is as it was
+unfoldable pub saveOf : Table → List ℕ → SaveOutcome
+saveOf t buffer =
+    if no (keepsTable t) then unsaved stateBroken buffer
+    else if length buffer <? length (imageOf t) then unsaved bufferTooShort buffer
+    else record { answer = written (length (imageOf t)); buffer = front (imageOf t) buffer }
+
+-- every row is replaced by the image's; what is no image is 16, and the table stays
+abbrev pub replaced : Table → Option Table → Outcome Table
+replaced t none = refuse noSavedImage t
+replaced t (some u) = record { answer = accepted; after = u }
+
+-- 40, then 16
+unfoldable pub loadOf : Table → List ℕ → Outcome Table
+loadOf t image = if no (keepsTable t) then refuse stateBroken t else replaced t (tableOf image)

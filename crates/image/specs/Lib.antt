@@ -1,0 +1,3 @@
+-- Document 01, "The saved table".
+pub mod Answer
+pub mod Image
