@@ -2,7 +2,7 @@
 use Prim.Native.Nat.{ℕ, suc, _+_, _<_, _≤_}
 use native.Mathlib.Omega.{arith}
 use native.Mathlib.Decide.{ℕ-discrete}
-use mathlib.Core.Path.{_≡_, refl, ap}
+use mathlib.Core.Path.{_≡_, refl, sym, ap, _∙_, subst}
 use mathlib.Core.Bool.{Bool, true, false}
 use mathlib.Core.List.{List, [], _∷_, _++_}
 use mathlib.Core.Logic.{_⊎_, inl, inr}
@@ -122,3 +122,18 @@ in-insert m x (y ∷ l) i = go (x .number <? y .number) i (in-insert m x l)
     go true i f = i
     go false (inl e) f = inr (inl e)
     go false (inr j) f = pass (f j)
+
+in-counts : (m : Held) (l : List Held) → In m l → 1 ≤ countHeld (numbered (m .number)) l
+in-counts m [] i = absurd i
+in-counts m (x ∷ l) (inl e) = omega (arith, bit-is (m .number) (x .number) (ap (λ (y : Held). y .number) (sym e)))
+in-counts m (x ∷ l) (inr i) = omega (arith, in-counts m l i)
+
+-- of messages with one number there is one
+pub one-of : (a b : Held) (l : List Held) → a .number ≡ b .number → countHeld (numbered (a .number)) l ≤ 1 → In a l → In b l → a ≡ b
+one-of a b [] e c i j = absurd i
+one-of a b (x ∷ l) e c (inl p) (inl q) = p ∙ sym q
+one-of a b (x ∷ l) e c (inl p) (inr j) =
+    absurd (omega (arith, bit-is (a .number) (x .number) (ap (λ (y : Held). y .number) (sym p)), subst (λ (n : ℕ). 1 ≤ countHeld (numbered n) l) (sym e) (in-counts b l j)))
+one-of a b (x ∷ l) e c (inr i) (inl q) =
+    absurd (omega (arith, bit-is (a .number) (x .number) (ap (λ (y : Held). y .number) (sym q) ∙ sym e), in-counts a l i))
+one-of a b (x ∷ l) e c (inr i) (inr j) = one-of a b l e (omega arith) i j

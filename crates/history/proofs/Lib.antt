@@ -2,3 +2,5 @@
 pub mod Cards
 pub mod Counting
 pub mod Sound
+pub mod Steps
+pub mod Serves

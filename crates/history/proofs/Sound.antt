@@ -1,21 +1,21 @@
 -- What ties a row to the history that led to it, and that every call of a row keeps it.
 use Prim.Native.Nat.{ℕ, _+_, _-_, _<_, _≤_, max}
 use native.Mathlib.Omega.{arith}
-use native.Mathlib.Decide.{ℕ-discrete}
+use native.Mathlib.Decide.{ℕ-discrete, decLe}
 use mathlib.Core.Path.{_≡_, refl, sym, ap, _∙_, subst}
 use mathlib.Core.Bool.{Bool, true, false}
 use mathlib.Core.List.{List, [], _∷_}
 use mathlib.Core.Logic.{_⊎_, inl, inr}
-use borrow.Author.Tests.{lt-ltb, ltb-true, le-leb, leb-true, ne-eqb, eqb-true, eqb-false}
+use borrow.Author.Tests.{lt-ltb, ltb-true, le-leb, leb-true, ne-eqb, eq-eqb, eqb-true, eqb-false}
 use Rattle.octets.specs.Words.{if_then_else_, _and_, _or_, _<?_, _≤?_, _=?_}
-use Rattle.octets.proofs.Tests.{and-left, and-right, and-both, or-next, true-not-false}
+use Rattle.octets.proofs.Tests.{and-left, and-right, and-both, or-left, or-next, true-not-false}
 use Rattle.rows.specs.declared.Held.{Held}
 use Rattle.rows.specs.Stream.{Stream, fresh, ascending, holds, insert, gapOpen, due, accept, stay, give}
 use Rattle.rows.specs.Stream as rows
 use Rattle.rows.specs.Steps.{startAfter}
 use Rattle.rows.proofs.Rules.{Kept}
 use Rattle.history.specs.History.{Way, take, force, Event, accepts, gives, gives-nothing, History, opened, restored, _▷_, Sent, sent, accepted, given, next, told, timeOf, bit, count, countHeld, numbered, In, Gap, OpenSince, MayPass, Rightly, Fair, Ordered}
-use Rattle.history.proofs.Counting.{bit-is, count-append, held-append, held-insert, first-low, rest-order, held-low, held-once, Within, within-rises, within-more, count-high, count-once, in-append, in-last, in-insert}
+use Rattle.history.proofs.Counting.{bit-is, count-append, held-append, held-insert, first-low, rest-order, held-low, held-once, Within, within-rises, within-more, count-high, count-once, in-append, in-last, in-insert, one-of}
 
 -- the numbers: e is the next of h, and l is what h accepted and did not give out
 pub record Tally (h : History) (e : ℕ) (l : List Held) : Type 0 where
@@ -204,6 +204,10 @@ module _ (h : History) (s : Stream) (k : Sound h s) where
 
 -- ---- what is due may pass, and what may pass is due
 
+or-second : (a b : Bool) → b ≡ true → a or b ≡ true
+or-second true b e = refl
+or-second false b e = e
+
 module _ (h : History) (s : Stream) (k : Sound h s) (m : Held) (rest : List Held) (is : s .held ≡ m ∷ rest) (time : ℕ) where
   pub due-passes : due s m (max (s .clock) time) ≡ true → next h < m .number → MayPass h take (m .number) time
   due-passes d lt =
@@ -213,3 +217,36 @@ module _ (h : History) (s : Stream) (k : Sound h s) (m : Held) (rest : List Held
       let q : m .timeout ≤ max (s .clock) time - s .gapStart = leb-true (m .timeout) _ (and-right (0 <? m .timeout) _ w) in
       let g : gapOpen (s .expected) (s .held) ≡ true = ap (gapOpen (s .expected)) is ∙ lt-ltb (s .expected) (m .number) e in
       (m, k .tally .came m (subst (λ (l : List Held). In m l) (sym is) (inl refl)), refl, p, (s .gapStart, k .stood g, omega (arith, k .told-is)))
+
+-- no number was accepted twice
+pub once : (h : History) (s : Stream) → Sound h s → (n : ℕ) → countHeld (numbered n) (accepted h) ≤ 1
+once h s k n = go (decLe (s .expected) n)
+  where
+    go : Dec (s .expected ≤ n) → countHeld (numbered n) (accepted h) ≤ 1
+    go (yes le) = omega (arith, k .tally .counted (numbered n), count-high n 0 (s .expected) (given h) le (k .tally .rising), held-once n (s .expected) (s .held) (k .tally .order))
+    go (no gt) = omega (
+      arith,
+      k .tally .counted (numbered n),
+      held-low n (s .expected) (s .held) (omega arith) (k .tally .order),
+      count-once n 0 (given h) (within-rises 0 (s .expected) (given h) (k .tally .rising)),
+    )
+
+pub ordered : (h : History) (s : Stream) → Sound h s → Ordered h (s .held)
+ordered h s k = record {
+  kept = k .tally .counted;
+  once = once h s k;
+  rises = within-rises 0 (s .expected) (given h) (k .tally .rising);
+  waits = rw (k .tally .next-is) (k .tally .order);
+  fair = k .fair;
+}
+
+-- the lowest held is due where it is the next, and where it may pass
+pub is-due : (h : History) (s : Stream) → Sound h s → (m : Held) (rest : List Held) → s .held ≡ m ∷ rest → (time : ℕ)
+    → (m .number ≡ next h) ⊎ MayPass h take (m .number) time → due s m (max (s .clock) time) ≡ true
+is-due h s k m rest is time (inl e) = or-left (m .number =? s .expected) _ (eq-eqb (m .number) (s .expected) (e ∙ k .tally .next-is))
+is-due h s k m rest is time (inr (x, i, q, p, (start, stands, le))) =
+    let j = k .tally .came m (subst (λ (l : List Held). In m l) (sym is) (inl refl)) in
+    let same : x ≡ m = one-of x m (accepted h) q (once h s k (x .number)) i j in
+    let t : x .timeout ≡ m .timeout = ap (λ (y : Held). y .timeout) same in
+    or-second (m .number =? s .expected) _
+    (and-both _ _ (lt-ltb 0 (m .timeout) (omega arith)) (le-leb (m .timeout) (max (s .clock) time - s .gapStart) (omega (arith, k .earliest start stands, k .told-is))))
