@@ -1,0 +1,2 @@
+-- Laws of a row's record.
+pub mod Laws
