@@ -4,3 +4,4 @@ pub mod Counting
 pub mod Sound
 pub mod Steps
 pub mod Serves
+pub mod Demand3
