@@ -1,14 +1,13 @@
 -- A call on the table, seen from each stream: on its own stream it does what the row by itself does, and other streams it leaves alone.
-use Prim.Native.Nat.{ℕ, _≤_}
+use Prim.Native.Nat.{ℕ}
 use native.Mathlib.Omega.{arith}
 use mathlib.Core.Path.{_≡_, refl, sym, ap, _∙_, subst}
 use mathlib.Core.Bool.{Bool, true, false}
 use mathlib.Core.List.{List, [], _∷_}
 use mathlib.Core.Logic.{_⊎_, inl, inr}
 use mathlib.Core.Option.{Option, none, some as just}
-use borrow.Author.Tests.{ltb-true, ltb-false}
-use Rattle.octets.specs.Words.{if_then_else_, _and_, every, _<?_}
-use Rattle.octets.proofs.Tests.{if-yes, if-no, and-left, and-right}
+use Rattle.octets.specs.Words.{if_then_else_, every}
+use Rattle.octets.proofs.Tests.{if-yes, and-left, and-right}
 use Rattle.refusals.specs.Numbers.{noCallsign, streamIdMalformed, noSuchStream, stillHolding}
 use Rattle.callsigns.specs.Callsign.{callsign}
 use Rattle.names.specs.Texts.{streamId}
@@ -16,9 +15,9 @@ use Rattle.keys.specs.declared.Key.{Key}
 use Rattle.keys.specs.Key.{sameKey, keyOf, keepsKey, namedOf}
 use Rattle.rows.specs.declared.Held.{Held}
 use Rattle.rows.specs.declared.Row.{Row}
-use Rattle.rows.specs.Answer.{Answer, accepted, given, nothing, refused, Outcome, refuse}
-use Rattle.rows.specs.Stream.{Stream, fresh, word, words, keeps}
-use Rattle.rows.specs.Row.{streamOf, rowOf, keepsRow, checked, offerOf, takeOf, forceOf}
+use Rattle.rows.specs.Answer.{accepted, Outcome, refuse}
+use Rattle.rows.specs.Stream.{Stream, fresh, words, keeps}
+use Rattle.rows.specs.Row.{streamOf, rowOf, keepsRow, checked, offerOf}
 use Rattle.rows.proofs.Rules.{kept-row, keep, unpacks}
 use Rattle.rows.proofs.Keeps.{fresh-keeps}
 use Rattle.streams.specs.declared.Slot.{Slot}
@@ -34,7 +33,7 @@ use Rattle.streams.proofs.Alone as alone
 use Rattle.streams.proofs.Alone.{Does, named-is}
 use Rattle.streams.proofs.Unknown as unknown
 use Rattle.history.specs.History.{take, force, History, opened}
-use Rattle.history.specs.Chain.{Call, offer, give, close, small, asked, noted, rowCall, replay}
+use Rattle.history.specs.Chain.{Call, offer, give, close, small, asked, noted}
 use Rattle.history.proofs.Sound.{sound-opened}
 use Rattle.history.proofs.Steps.{Led, step-led}
 

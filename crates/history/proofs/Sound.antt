@@ -6,15 +6,14 @@ use mathlib.Core.Path.{_≡_, refl, sym, ap, _∙_, subst}
 use mathlib.Core.Bool.{Bool, true, false}
 use mathlib.Core.List.{List, [], _∷_}
 use mathlib.Core.Logic.{_⊎_, inl, inr}
-use borrow.Author.Tests.{lt-ltb, ltb-true, le-leb, leb-true, ne-eqb, eq-eqb, eqb-true, eqb-false}
-use Rattle.octets.specs.Words.{if_then_else_, _and_, _or_, _<?_, _≤?_, _=?_}
+use borrow.Author.Tests.{lt-ltb, ltb-true, le-leb, leb-true, ne-eqb, eq-eqb}
+use Rattle.octets.specs.Words.{_or_, _<?_, _=?_}
 use Rattle.octets.proofs.Tests.{and-left, and-right, and-both, or-left, or-next, true-not-false}
 use Rattle.rows.specs.declared.Held.{Held}
-use Rattle.rows.specs.Stream.{Stream, fresh, ascending, holds, insert, gapOpen, due, accept, stay, give}
-use Rattle.rows.specs.Stream as rows
+use Rattle.rows.specs.Stream.{Stream, fresh, ascending, insert, gapOpen, due, accept, stay, give}
 use Rattle.rows.specs.Steps.{startAfter}
 use Rattle.rows.proofs.Rules.{Kept}
-use Rattle.history.specs.History.{Way, take, force, Event, accepts, gives, gives-nothing, History, opened, restored, _▷_, Sent, sent, accepted, given, next, told, timeOf, bit, count, countHeld, numbered, In, Gap, OpenSince, MayPass, Rightly, Fair, Ordered}
+use Rattle.history.specs.History.{Way, take, Event, accepts, gives, gives-nothing, History, opened, restored, _▷_, Sent, sent, accepted, given, next, told, count, countHeld, numbered, In, Gap, OpenSince, MayPass, Rightly, Fair, Ordered}
 use Rattle.history.proofs.Counting.{bit-is, count-append, held-append, held-insert, first-low, rest-order, held-low, held-once, Within, within-rises, within-more, count-high, count-once, in-append, in-last, in-insert, one-of}
 
 -- the numbers: e is the next of h, and l is what h accepted and did not give out

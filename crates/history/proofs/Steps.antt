@@ -1,8 +1,7 @@
 -- A call on a row: the row after it is tied to the history after it, and is the one to which that history leads.
 use Prim.Native.Nat.{ℕ, max}
-use mathlib.Core.Path.{_≡_, refl, sym, ap, _∙_}
+use mathlib.Core.Path.{_≡_, refl, ap, _∙_}
 use mathlib.Core.Bool.{true}
-use mathlib.Core.List.{List, _∷_}
 use Rattle.octets.proofs.Tests.{and-left, and-right}
 use Rattle.rows.specs.declared.Held.{Held}
 use Rattle.rows.specs.Answer.{Outcome}
