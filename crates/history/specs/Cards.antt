@@ -1,4 +1,4 @@
--- Document 01, "Bench cards": a card's lines, how a card is played, and the table of cards 1 to 8. Each card is played on an empty table,
+-- Document 01, "Bench cards": a card's lines, how a card is played, and the table of cards 1 to 9. Each card is played on an empty table,
 -- on the stream `chat` of originator `G0ORIG`.
 use Prim.Native.Nat.{ℕ, zero, suc, _+_}
 use mathlib.Core.Bool.{Bool, true, false}
@@ -9,14 +9,18 @@ use Rattle.rows.specs.Answer.{Answer, accepted, given, nothing, refused, Outcom
 use Rattle.streams.specs.declared.Table.{Table}
 use Rattle.streams.specs.Answer.{Counted, counted, uncounted}
 use Rattle.streams.specs.Calls as calls
+use Rattle.image.specs.Image.{imageOf, loadOf}
 
--- a line of a card: a call and its answer; or what the first row expects and its clock; or how many rows are open
+-- a line of a card: a call and its answer; or what the first row expects and its clock; or how many rows are open; or the image that a save
+-- writes; or an image that is loaded
 pub data Line : Type 0 where
   offer : (number timeout time : ℕ) → Answer → Line
   take : (time : ℕ) → Answer → Line
   force : (time : ℕ) → Answer → Line
   row : (expected clock : ℕ) → Line
   rows : ℕ → Line
+  saves : List ℕ → Line
+  loads : List ℕ → Line
 
 abbrev pub originator : List ℕ
 originator = 71 ∷ 48 ∷ 79 ∷ 82 ∷ 73 ∷ 71 ∷ []
@@ -53,6 +57,19 @@ plays (take time a ∷ l) t = then-on (calls.take t originator chat time) a (pla
 plays (force time a ∷ l) t = then-on (calls.force t originator chat time) a (plays l)
 plays (row expected clock ∷ l) t = let r = calls.rowAt t 0 .row in r .expected =? expected and r .clock =? clock and plays l t
 plays (rows n ∷ l) t = sameCount (calls.openRows t) n and plays l t
+plays (saves image ∷ l) t = same (imageOf t) image and plays l t
+plays (loads image ∷ l) t = then-on (loadOf t image) accepted (plays l)
+
+-- the image of an empty table, and that of one row
+abbrev pub noRows : List ℕ
+noRows = 0x53 ∷ 0x45 ∷ 0x00 ∷ []
+
+abbrev pub oneRow : List ℕ
+oneRow =
+    0x53 ∷ 0x54 ∷ 0x00 ∷ 0x06 ∷ 0x47 ∷ 0x30 ∷ 0x4F ∷ 0x52 ∷ 0x49 ∷ 0x47 ∷ 0x04 ∷ 0x63 ∷ 0x68 ∷ 0x61 ∷ 0x74
+    ∷ 0x01 ∷ 0x00 ∷ 0x00 ∷ 0x00 ∷ 0x00 ∷ 0x00 ∷ 0x00 ∷ 0x00 ∷ 0xE8 ∷ 0x03 ∷ 0x00 ∷ 0x00 ∷ 0xE8 ∷ 0x03 ∷ 0x00 ∷ 0x00
+    ∷ 0x01 ∷ 0x02 ∷ 0x00 ∷ 0x00 ∷ 0x00 ∷ 0x58 ∷ 0x02 ∷ 0x00 ∷ 0x00 ∷ 0x09 ∷ 0x00 ∷ 0x00 ∷ 0x00
+    ∷ 0x53 ∷ 0x45 ∷ 0x01 ∷ []
 
 -- a message given
 abbrev pub gave : ℕ → Answer
@@ -81,4 +98,6 @@ cards =
     ∷ (offer 4294967295 0 0 accepted ∷ force 0 (gave 4294967295) ∷ offer 4294967295 0 0 (refused 10) ∷ [])
     -- 8. Offer 2 to 16: accepted; 17: 12; 1: accepted.
     ∷ offers 2 15 (offer 17 0 0 (refused 12) ∷ offer 1 0 0 accepted ∷ [])
+    -- 9. The two images of "The saved table", saved and loaded.
+    ∷ (saves noRows ∷ offer 2 600 1000 accepted ∷ saves oneRow ∷ loads noRows ∷ rows 0 ∷ loads oneRow ∷ row 1 1000 ∷ saves oneRow ∷ [])
     ∷ []

@@ -1,2 +1,4 @@
--- Document 01, "Bench cards".
+-- Demand 3, and document 01, "Bench cards".
 pub mod Cards
+pub mod History
+pub mod Chain

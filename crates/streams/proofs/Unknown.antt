@@ -2,10 +2,11 @@
 use mathlib.Core.Path.{_≡_, refl, ap, _∙_}
 use Prim.Native.Nat.{ℕ, _≤_}
 use native.Mathlib.Omega.{arith}
-use mathlib.Core.Bool.{true, false}
+use mathlib.Core.Bool.{Bool, true, false}
 use mathlib.Core.List.{List}
+use mathlib.Core.Logic.{_⊎_, inl, inr}
 use mathlib.Core.Option.{none}
-use borrow.Author.Tests.{le-ltb}
+use borrow.Author.Tests.{le-ltb, ltb-true, ltb-false}
 use Rattle.octets.specs.Words.{if_then_else_, _<?_}
 use Rattle.refusals.specs.Numbers.{stateBroken, noCallsign, streamIdMalformed, stale, noFreeRow, noSuchStream}
 use Rattle.keys.specs.Key.{keyOf, namedOf}
@@ -79,3 +80,15 @@ module _ (t : Table) (o s : List ℕ) (e : keepsTable t ≡ true) (c : callsign 
       offer-opens i f =
           rw (offer-unknown, le-ltb (m .number) 1 n, ← f)
           (record { answer = refl; row = row-new (keyOf o s) (t .slots) i _ (none-some (keyOf o s) (t .slots) h) (place-at (first-place isFree i (t .slots) f) .1) (own-key (keyOf o s) _) })
+
+    -- so an offer on an unknown key is refused, or opens a row
+    pub offer-refused-or-opens : ((n : ℕ) × (offer t o s m time ≡ refuse n t)) ⊎ Does (keyOf o s) (offerOf (rowOf fresh) m time) (offer t o s m time)
+    offer-refused-or-opens = go (m .number <? 1) refl
+      where
+        free : 1 ≤ m .number → (f : Found) → f ≡ first isFree 0 (t .slots) → ((n : ℕ) × (offer t o s m time ≡ refuse n t)) ⊎ Does (keyOf o s) (offerOf (rowOf fresh) m time) (offer t o s m time)
+        free n (Found.At i) q = inr (offer-opens n i q)
+        free n Found.Nothing q = inl (noFreeRow, offer-none-free n q)
+
+        go : (b : Bool) → (m .number <? 1) ≡ b → ((n : ℕ) × (offer t o s m time ≡ refuse n t)) ⊎ Does (keyOf o s) (offerOf (rowOf fresh) m time) (offer t o s m time)
+        go true q = let z = ltb-true (m .number) 1 q in inl (stale, offer-stale (omega arith))
+        go false q = free (ltb-false (m .number) 1 q) (first isFree 0 (t .slots)) refl
