@@ -1,3 +1,5 @@
 -- What reading and writing come to together.
 pub mod Again
+pub mod Good
+pub mod Back
 pub mod Smallest
