@@ -13,7 +13,7 @@ use Rattle.octets.specs.Bytes.{Bytes}
 use Rattle.octets.specs.Field.{Res, bad, got, num}
 use Rattle.octets.proofs.FieldLaws.{Read, num-laws, picked}
 use Rattle.octets.proofs.NumberLaws.{bytes-drop}
-use Rattle.octets.proofs.Tests.{and-right}
+use Rattle.octets.proofs.Tests.{and-left, and-right}
 use Rattle.layout.specs.declared.Datagram.{Datagram}
 use Rattle.layout.specs.Rules.{valid}
 use Rattle.layout.specs.Layout.{layout, message}
@@ -125,6 +125,10 @@ module _ (d : List ℕ) (m : Datagram) (at n : ℕ) (hd : Bytes d) (e : readOf d
   pub accepted-valid : valid m ≡ true
   unfolding message
   accepted-valid = and-right (layout .ok m) (valid m) (read-fields .good)
+
+  pub accepted-good : layout .ok m ≡ true
+  unfolding message
+  accepted-good = and-left (layout .ok m) (valid m) (read-fields .good)
 
   pub accepted-tidy : message .tidy m ≡ m
   accepted-tidy = read-fields .tidied

@@ -2,4 +2,6 @@
 pub mod Again
 pub mod Good
 pub mod Back
+pub mod Sizes
+pub mod Longest
 pub mod Smallest
