@@ -1,18 +1,17 @@
 -- Lists behind their counts, read one value after the other.
-use Prim.Native.Nat.{ℕ, zero, suc, _+_, _-_, _≤_, _<_}
-use mathlib.Core.Path.{_≡_, refl, ap, sym, _∙_}
+use Prim.Native.Nat.{ℕ, zero, suc, _+_, _-_, _≤_}
+use mathlib.Core.Path.{_≡_, refl, ap, _∙_}
 use mathlib.Core.Bool.{Bool, true, false}
 use mathlib.Core.List.{List, [], _∷_}
 use native.Mathlib.Omega.{arith}
 use native.Mathlib.Numerals.{add-one}
 use borrow.Author.Tests.{lt-leb}
-use lib.ListN.{length, take, drop, set, replicate, length-drop}
+use lib.ListN.{length, drop, set, replicate}
 use lib.Seq.{sets, sets-eq}
-use Rattle.octets.specs.Words.{if_then_else_, _≤?_, between}
-use Rattle.octets.specs.Bytes.{front}
+use Rattle.octets.specs.Words.{_≤?_}
 use Rattle.octets.specs.Field.{Res, bad, got, bind, Field, num, only, held, tagged, many, manyParse}
 use Rattle.octets.proofs.Tests.{if-no, true-not-false}
-use Rattle.octets.proofs.FieldLaws.{Laws, num-laws, bound}
+use Rattle.octets.proofs.FieldLaws.{num-laws, bound}
 use Rattle.headers.specs.declared.Header.{Header}
 use Rattle.headers.specs.declared.Headers.{Headers}
 use Rattle.envelope.specs.declared.CallText.{CallText}

@@ -1,12 +1,12 @@
 -- Fields one after the other: each is read from the part that begins where the last one ended, as the code lends it.
 use Prim.Native.Nat.{ℕ, _+_, _-_, _≤_}
-use mathlib.Core.Path.{_≡_, refl, ap, sym, _∙_}
+use mathlib.Core.Path.{_≡_, refl}
 use mathlib.Core.Bool.{Bool, true, false}
 use mathlib.Core.List.{List}
 use native.Mathlib.Omega.{arith}
 use lib.ListN.{length, take, drop, length-drop}
 use Rattle.octets.specs.Words.{if_then_else_, _and_}
-use Rattle.octets.specs.Field.{Res, bad, got, bind, Field, only, seq}
+use Rattle.octets.specs.Field.{bad, got, bind, Field, only, seq}
 use Rattle.datagram.specs.Found.{found, finding}
 use Rattle.datagram.proofs.Spans.{rest}
 

@@ -6,11 +6,10 @@ use mathlib.Core.List.{List}
 use native.Mathlib.Omega.{arith}
 use borrow.Author.Tests.{le-leb, lt-leb, eq-eqb}
 use lib.ListN.{length, take, length-take}
-use Rattle.octets.specs.Words.{if_then_else_, _and_, every}
+use Rattle.octets.specs.Words.{if_then_else_, every}
 use Rattle.octets.specs.Field.{Res, bad, got, bind}
-use Rattle.octets.proofs.Tests.{if-yes, if-no, and-next}
 use Rattle.text.specs.Digits.{isDigit}
-use Rattle.text.specs.Hex.{isHex, hexValue, idOf}
+use Rattle.text.specs.Hex.{hexValue, idOf}
 use Rattle.text.specs.declared.Id.{Id}
 use Rattle.text.specs.declared.Id.the-variants.{Is, Malformed}
 use Rattle.layout.specs.Layout.{hexId}

@@ -1,6 +1,6 @@
 -- What was found, from what the code tested: numbers, and texts behind their lengths.
 use Prim.Native.Nat.{ℕ, _+_, _-_, _≤_, _<_}
-use mathlib.Core.Path.{_≡_, refl, ap, sym, _∙_}
+use mathlib.Core.Path.{_≡_, refl}
 use mathlib.Core.Bool.{Bool, true, false}
 use mathlib.Core.List.{List, [], _∷_}
 use native.Mathlib.Omega.{arith}
@@ -8,14 +8,14 @@ use lib.ListN.{length, take, drop, length-drop}
 use lib.Seq.{take-all}
 use lib.IntN.{ℤ}
 use borrow.Author.Tests.{le-leb, lt-leb}
-use Rattle.octets.specs.Words.{if_then_else_, _and_, _≤?_, every}
-use Rattle.octets.specs.Field.{Res, bad, got, bind, Field, num, raw, when, held}
+use Rattle.octets.specs.Words.{every}
+use Rattle.octets.specs.Field.{Res, bad, got, bind, Field, num, when}
 use Rattle.octets.specs.Reading.{read8, read16, read32, readSigned}
 use Rattle.octets.specs.declared.Read8.{Read8}
 use Rattle.octets.specs.declared.Read16.{Read16}
 use Rattle.octets.specs.declared.Read32.{Read32}
 use Rattle.octets.specs.declared.ReadSigned.{ReadSigned}
-use Rattle.octets.proofs.Tests.{if-yes, if-no, and-both, and-not-left, true-not-false}
+use Rattle.octets.proofs.Tests.{true-not-false}
 use Rattle.octets.proofs.FieldLaws.{Laws, num-laws}
 use Rattle.layout.specs.Layout.{text}
 use Rattle.datagram.specs.Found.{found, finding, spans, textBehind}

@@ -4,17 +4,15 @@ use mathlib.Core.Path.{_≡_, refl, ap, sym, _∙_}
 use mathlib.Core.Bool.{Bool, true, false}
 use mathlib.Core.List.{List, [], _∷_}
 use native.Mathlib.Omega.{arith}
-use borrow.Author.Tests.{lt-ltb, le-ltb, eq-eqb, ne-eqb, le-leb, lt-leb}
-use lib.ListN.{length, take, drop, getD, length-drop}
+use borrow.Author.Tests.{lt-ltb, le-ltb, eq-eqb, ne-eqb}
+use lib.ListN.{length, drop, getD}
 use lib.Seq.{drop-drop}
-use Rattle.octets.specs.Words.{if_then_else_}
 use Rattle.octets.specs.Field.{Res, bad, got, num}
 use Rattle.octets.proofs.FieldLaws.{num-laws}
 use Rattle.octets.proofs.Tests.{if-yes, if-no, true-not-false}
 use Rattle.layout.specs.declared.Datagram.{Datagram}
 use Rattle.layout.specs.Layout.{message}
-use Rattle.datagram.specs.declared.DatagramAnswer.{DatagramAnswer}
-use Rattle.datagram.specs.Answer.{accepted, refused, afterLength, afterFields, isVersion7, readOf, partOf}
+use Rattle.datagram.specs.Answer.{accepted, refused, afterLength, afterFields, readOf}
 use Rattle.datagram.specs.Found.{found, finding}
 use Rattle.datagram.proofs.Spans.{rest}
 use Rattle.datagram.proofs.Chains.{tail, tail-length}

@@ -1,11 +1,11 @@
 -- An accepted datagram, written again, has the same bytes; it is valid, and has at most 6,205 of them.
-use Prim.Native.Nat.{ℕ, suc, _+_, _-_, _^_, _≤_, _<_}
+use Prim.Native.Nat.{ℕ, suc, _+_, _≤_}
 use mathlib.Core.Path.{_≡_, refl, ap, sym, _∙_}
 use mathlib.Core.Bool.{Bool, true, false}
 use mathlib.Core.List.{List, [], _∷_, _++_}
 use native.Mathlib.Omega.{arith}
 use borrow.Author.Tests.{ltb-false, eqb-true}
-use lib.ListN.{length, take, drop, length-drop, length-append}
+use lib.ListN.{length, take, drop, length-drop}
 use lib.Seq.{drop-drop, take-all}
 use Rattle.octets.specs.Words.{if_then_else_, _<?_, _≤?_, _=?_, no}
 use Rattle.octets.specs.Numbers.{little}
@@ -20,7 +20,7 @@ use Rattle.layout.specs.Layout.{layout, message}
 use Rattle.layout.proofs.Valid.{message-laws}
 use Rattle.datagram.specs.declared.Reading.{Reading}
 use Rattle.datagram.specs.declared.DatagramAnswer.{DatagramAnswer}
-use Rattle.datagram.specs.Answer.{accepted, refused, afterLength, afterFields, isVersion7, readOf}
+use Rattle.datagram.specs.Answer.{accepted, refused, afterLength, afterFields, readOf}
 use Rattle.datagram_bytes.specs.Bytes.{bytesOf}
 
 -- a refusal is no accepted datagram

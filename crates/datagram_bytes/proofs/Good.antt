@@ -1,17 +1,17 @@
 -- A valid message, each number in its type's range, is one that the layout can hold.
-use Prim.Native.Nat.{ℕ, _+_, _*_, _^_, _≤_, _<_}
-use mathlib.Core.Path.{_≡_, refl, ap, sym, _∙_}
+use Prim.Native.Nat.{ℕ, _^_, _≤_, _<_}
+use mathlib.Core.Path.{_≡_, refl}
 use mathlib.Core.Bool.{Bool, true, false}
 use mathlib.Core.List.{List, [], _∷_}
 use native.Mathlib.Omega.{arith}
-use borrow.Author.Tests.{le-leb, lt-ltb, eq-eqb, leb-true, ltb-true}
+use borrow.Author.Tests.{le-leb, lt-ltb, eq-eqb, leb-true}
 use lib.ListN.{length, take, length-take}
 use lib.IntN.{pos}
 use lib.Signed.{mag}
 use mir.Syntax.{w64}
 use mir.ValLaws.{ofZ-fits}
-use Rattle.octets.specs.Words.{if_then_else_, _and_, _<?_, _≤?_, _=?_, between, every}
-use Rattle.octets.specs.Field.{Field, num, raw, only, when, tagged, many, signedNum}
+use Rattle.octets.specs.Words.{_and_, _<?_, _≤?_, every}
+use Rattle.octets.specs.Field.{Field, num, when, signedNum}
 use Rattle.octets.specs.Numbers.{twos}
 use Rattle.octets.proofs.Tests.{and-left, and-right, and-both, inside}
 use Rattle.text.proofs.Hexes.{hex-is}
@@ -23,14 +23,14 @@ use Rattle.headers.specs.Rule.{valueOf}
 use Rattle.envelope.specs.declared.CallText.{CallText}
 use Rattle.envelope.specs.declared.AddressText.{AddressText}
 use Rattle.envelope.specs.declared.StreamText.{StreamText}
-use Rattle.envelope.specs.Texts.{callText, streamText, noHeaders}
+use Rattle.envelope.specs.Texts.{callText, streamText}
 use Rattle.envelope.specs.Rules.{callOf, addressOf, streamOf, callIn, addressIn, streamIn, idIn, ttlIn, fragmentIn, given, envelope}
 use Rattle.layout.specs.declared.Hops.{Hops}
 use Rattle.layout.specs.declared.Flags.{Flags}
 use Rattle.layout.specs.declared.Datagram.{Datagram}
 use Rattle.layout.specs.Texts.{hopsOf, noHops}
 use Rattle.layout.specs.Rules.{hopsIn, valid}
-use Rattle.layout.specs.Layout.{text, call, address, streamName, hexId, hops, header, headersOf, headers, one, numberOf, flags, saltIf, ttlIf, callIf, floodIf, hopsIf, fragment, fragmentIf, stream, streamIf, headersIf, opening, ends, way, options, messageFlags, openingOf, endsOf, wayOf, optionsOf, layout, message}
+use Rattle.layout.specs.Layout.{text, call, address, streamName, hexId, hops, header, headersOf, headers, one, numberOf, flags, saltIf, callIf, floodIf, hopsIf, fragment, fragmentIf, stream, streamIf, headersIf, opening, ends, way, options, messageFlags, openingOf, endsOf, wayOf, layout, message}
 use Rattle.datagram_bytes.specs.Bytes.{Typed}
 
 all-bytes : (l : List ℕ) → every (λ x. true) l ≡ true

@@ -1,21 +1,18 @@
 -- Document 01, "The datagram": the longest valid datagram has 6,205 bytes.
 use Prim.Native.Nat.{ℕ, _+_, _≤_}
-use mathlib.Core.Path.{_≡_, refl, ap, sym, _∙_}
+use mathlib.Core.Path.{_≡_, ap, sym, _∙_}
 use mathlib.Core.Bool.{true}
 use mathlib.Core.List.{List, _++_}
 use native.Mathlib.Omega.{arith}
-use lib.ListN.{length, take, drop, replicate, length-append, length-take}
+use lib.ListN.{length, take, drop, length-append, length-take}
 use Rattle.octets.specs.Bytes.{Bytes}
 use Rattle.octets.specs.Field.{num}
-use Rattle.octets.specs.Numbers.{littleBytes}
 use Rattle.octets.proofs.NumberLaws.{length-bytes}
-use Rattle.octets.proofs.Tests.{and-left}
 use Rattle.layout.specs.declared.Datagram.{Datagram}
 use Rattle.layout.specs.Rules.{valid}
-use Rattle.layout.specs.Layout.{layout, message}
+use Rattle.layout.specs.Layout.{layout}
 use Rattle.datagram.specs.Answer.{accepted, readOf}
 use Rattle.datagram_bytes.specs.Bytes.{bytesOf, Typed}
-use Rattle.datagram_bytes.specs.Examples.{longestMessage}
 use Rattle.datagram_bytes.proofs.Again.{whole, accepted-good, same-bytes}
 use Rattle.datagram_bytes.proofs.Good.{layout-good}
 use Rattle.datagram_bytes.proofs.Sizes.{fields-size}

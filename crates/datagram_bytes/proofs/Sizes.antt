@@ -1,32 +1,26 @@
 -- How many bytes each field takes at most, and all of them together.
-use Prim.Native.Nat.{ℕ, suc, _+_, _*_, _^_, _≤_, _<_}
-use mathlib.Core.Path.{_≡_, refl, ap, sym, _∙_}
+use Prim.Native.Nat.{ℕ, _+_, _*_, _≤_}
+use mathlib.Core.Path.{_≡_}
 use mathlib.Core.Bool.{Bool, true, false}
-use mathlib.Core.List.{List, [], _∷_, _++_}
+use mathlib.Core.List.{List, [], _∷_}
 use native.Mathlib.Omega.{arith}
 use native.Mathlib.Nat.{mul-suc, mul-zero}
 use lib.ListN.{length, length-append}
-use lib.IntN.{ℤ, pos}
+use lib.IntN.{pos}
 use Rattle.octets.specs.Words.{_and_, _≤?_, between, every}
 use Rattle.octets.specs.Field.{Field, num, when, seq, held, manyPrint, signedNum}
 use Rattle.octets.specs.Numbers.{twos}
 use Rattle.octets.proofs.NumberLaws.{length-bytes}
 use Rattle.octets.proofs.Tests.{and-left, and-right, inside-high}
 use Rattle.text.proofs.Numerals.{length-digits}
-use Rattle.headers.specs.declared.Header.{Header}
-use Rattle.headers.specs.declared.Headers.{Headers}
 use Rattle.headers.specs.Keys.{keyOf}
 use Rattle.headers.specs.Rule.{valueOf}
-use Rattle.envelope.specs.declared.CallText.{CallText}
-use Rattle.envelope.specs.declared.AddressText.{AddressText}
-use Rattle.envelope.specs.declared.StreamText.{StreamText}
 use Rattle.envelope.specs.Texts.{callText, addressText, streamText, headerText, noHeaders}
 use Rattle.envelope.specs.Rules.{callOf, addressOf, streamOf}
-use Rattle.layout.specs.declared.Hops.{Hops}
 use Rattle.layout.specs.declared.Flags.{Flags}
 use Rattle.layout.specs.declared.Datagram.{Datagram}
 use Rattle.layout.specs.Texts.{hopsOf, hopArray, noHops}
-use Rattle.layout.specs.Layout.{text, call, address, streamName, hexId, hopList, hops, header, headerList, headersOf, headerArray, headers, flags, numberOf, saltIf, ttlIf, callIf, floodIf, hopsIf, fragment, fragmentIf, stream, streamIf, headersIf, opening, ends, way, options, messageOf, partsOf, parts, layout}
+use Rattle.layout.specs.Layout.{text, call, address, streamName, hexId, hopList, hops, header, headerList, headersOf, headerArray, headers, flags, numberOf, saltIf, callIf, floodIf, hopsIf, fragment, fragmentIf, stream, streamIf, opening, ends, way, options, messageOf, partsOf, parts, layout}
 use Rattle.layout.proofs.Laws.{text-short, hopList-short, headerList-between}
 use Rattle.layout.proofs.Valid.{each}
 

@@ -9,7 +9,6 @@ use Rattle.headers.specs.Keys.{allDiffer, keysOf}
 use Rattle.headers.specs.Rule as rule
 use Rattle.envelope.specs.Texts.{held, padded}
 use Rattle.envelope.specs.Rules.{addressIn, idIn, envelope}
-use Rattle.layout.specs.Texts.{noHops}
 use Rattle.layout.specs.Rules.{valid}
 use Rattle.layout.specs.Layout.{text, address, hexId, bit, flagsOf, flags, opening, ends, way, options, layout, message}
 use Rattle.datagram.specs.Answer.{accepted, readOf}

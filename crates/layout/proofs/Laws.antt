@@ -1,6 +1,6 @@
 -- The laws of the layout, one for each field: what is written is read back, and what was read is what would be written.
 use Prim.Native.Nat.{ℕ, zero, suc, _+_, _*_, _/_, _%_, _^_, _≤_, _<_}
-use mathlib.Core.Path.{_≡_, refl, ap, sym, _∙_}
+use mathlib.Core.Path.{_≡_, refl}
 use mathlib.Core.Bool.{Bool, true, false}
 use mathlib.Core.List.{List, []}
 use native.Mathlib.Omega.{arith}
@@ -8,25 +8,23 @@ use lib.ListN.{length, take}
 use lib.Seq.{take-append-seam}
 use lib.IntN.{pos}
 use borrow.Author.Tests.{le-leb, lt-ltb, leb-true, ltb-true, eqb-true, eq-eqb, ne-eqb}
-use Rattle.octets.specs.Words.{_and_, _<?_, _≤?_, _=?_, between, every}
-use Rattle.octets.specs.Field.{Field, num, raw, only, when, seq, tagged, held, many, signedNum}
-use Rattle.octets.proofs.Tests.{if-yes, if-no, and-left, and-right, and-both, inside-low, inside-high}
+use Rattle.octets.specs.Words.{_and_, _<?_, _≤?_, _=?_, between}
+use Rattle.octets.specs.Field.{Field, num, raw, only, seq, held, many, signedNum}
+use Rattle.octets.proofs.Tests.{if-yes, and-left, and-right, and-both, inside-high}
 use Rattle.octets.proofs.FieldLaws.{Laws, num-laws, raw-laws, only-laws, when-laws, seq-laws, tagged-laws, held-laws, many-laws, signed-laws}
 use Rattle.text.specs.Digits.{isDigit}
-use Rattle.text.specs.Hex.{isHex, hexValue, hexDigits}
+use Rattle.text.specs.Hex.{hexValue, hexDigits}
 use Rattle.text.proofs.Hexes.{hex-forth, hex-below}
 use Rattle.headers.specs.declared.Header.{Header}
-use Rattle.headers.specs.declared.Headers.{Headers}
 use Rattle.headers.specs.Keys.{keyOf}
 use Rattle.headers.specs.Rule.{valueOf}
 use Rattle.envelope.specs.declared.CallText.{CallText}
 use Rattle.envelope.specs.Texts as texts
 use Rattle.envelope.specs.Texts.{padded, callText, addressText, streamText, headerText, noHeaders}
 use Rattle.envelope.specs.Rules.{callOf, addressOf, streamOf}
-use Rattle.layout.specs.declared.Hops.{Hops}
 use Rattle.layout.specs.declared.Flags.{Flags}
 use Rattle.layout.specs.Texts.{hopsOf, hopArray, noHops}
-use Rattle.layout.specs.Layout.{text, call, address, streamName, hexId, hopList, hops, header, headerList, headersOf, headerArray, headers, bit, flagsOf, one, numberOf, flags, saltIf, ttlIf, callIf, floodIf, hopsIf, fragment, fragmentIf, stream, streamIf, headersIf, opening, ends, way, options, Opening, Ends, Way, Options, messageOf, messageFlags, partsOf, parts, layout}
+use Rattle.layout.specs.Layout.{text, call, address, streamName, hexId, hopList, hops, header, headerList, headersOf, headerArray, headers, bit, flagsOf, one, numberOf, flags, saltIf, ttlIf, callIf, floodIf, hopsIf, fragment, fragmentIf, stream, streamIf, headersIf}
 
 -- ---- texts
 

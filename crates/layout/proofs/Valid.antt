@@ -7,14 +7,14 @@ use native.Mathlib.Omega.{arith}
 use lib.ListN.{length, take, length-map}
 use lib.Seq.{take-append-seam}
 use borrow.Author.Tests.{le-leb, ltb-true, leb-false}
-use Rattle.octets.specs.Words.{_and_, _<?_, _≤?_, _=?_, every, between}
+use Rattle.octets.specs.Words.{_and_, _≤?_, _=?_, every, between}
 use Rattle.octets.specs.Field.{Field, num, when, only, tagged, many}
 use Rattle.octets.proofs.Tests.{and-left, and-right, and-next, inside-high}
 use Rattle.octets.proofs.FieldLaws.{Laws, only-laws}
 use Rattle.text.proofs.Hexes.{hex-back}
 use Rattle.callsigns.specs.Callsign.{callsign}
 use Rattle.callsigns.specs.Destination.{destination}
-use Rattle.names.specs.Texts.{streamId, headerKey, headerValue}
+use Rattle.names.specs.Texts.{streamId}
 use Rattle.headers.specs.declared.Header.{Header}
 use Rattle.headers.specs.declared.Headers.{Headers}
 use Rattle.headers.specs.Keys.{allDiffer, keyOf, keysOf}
@@ -23,13 +23,13 @@ use Rattle.headers.specs.Rule.{valueOf}
 use Rattle.envelope.specs.declared.CallText.{CallText}
 use Rattle.envelope.specs.declared.AddressText.{AddressText}
 use Rattle.envelope.specs.declared.StreamText.{StreamText}
-use Rattle.envelope.specs.Texts.{held, padded, callText, streamText, headerText, noHeaders}
+use Rattle.envelope.specs.Texts.{held, padded, callText, streamText, noHeaders}
 use Rattle.envelope.specs.Rules.{callOf, addressOf, streamOf, callIn, addressIn, streamIn, idIn, ttlIn, fragmentIn, given, envelope}
 use Rattle.layout.specs.declared.Hops.{Hops}
 use Rattle.layout.specs.declared.Datagram.{Datagram}
-use Rattle.layout.specs.Texts.{hopsOf, hopArray, noHops}
+use Rattle.layout.specs.Texts.{hopsOf, noHops}
 use Rattle.layout.specs.Rules.{hopsIn, valid}
-use Rattle.layout.specs.Layout.{text, call, address, streamName, hexId, hopList, hops, header, headerList, headersOf, headers, flags, saltIf, ttlIf, callIf, floodIf, hopsIf, fragment, fragmentIf, stream, streamIf, headersIf, opening, ends, way, options, Opening, Ends, Way, Options, messageOf, messageFlags, openingOf, endsOf, wayOf, optionsOf, partsOf, parts, layout, message}
+use Rattle.layout.specs.Layout.{text, call, address, streamName, hexId, hops, header, headersOf, headers, flags, saltIf, ttlIf, callIf, floodIf, hopsIf, fragment, fragmentIf, stream, streamIf, headersIf, opening, ends, way, options, messageOf, messageFlags, openingOf, endsOf, wayOf, optionsOf, layout, message}
 use Rattle.layout.proofs.Laws.{text-short, held-whole, held-text, hopList-short, headerList-between}
 use Rattle.layout.proofs.Whole.{flags-tidy, layout-laws}
 

@@ -1,19 +1,18 @@
 -- The laws of the whole layout, from those of its fields.
-use Prim.Native.Nat.{ℕ, _≤_, _<_}
+use Prim.Native.Nat.{ℕ}
 use mathlib.Core.Path.{_≡_, refl, ap, sym, _∙_}
 use mathlib.Core.Bool.{Bool, true, false}
 use mathlib.Core.List.{List, _++_}
 use native.Mathlib.Omega.{arith}
-use lib.ListN.{length, take, drop, length-take}
-use borrow.Author.Tests.{le-leb, leb-true}
-use Rattle.octets.specs.Words.{_and_, _≤?_, between}
-use Rattle.octets.specs.Bytes.{Bytes}
-use Rattle.octets.specs.Field.{Field, got, bind, seq, held}
-use Rattle.octets.proofs.Tests.{and-left, and-right, and-both, inside-low}
+use lib.ListN.{length, drop, length-take}
+use borrow.Author.Tests.{le-leb}
+use Rattle.octets.specs.Words.{_≤?_}
+use Rattle.octets.specs.Field.{Field, got, seq, held}
+use Rattle.octets.proofs.Tests.{and-right, inside-low}
 use Rattle.octets.proofs.FieldLaws.{Read, Laws, bound, seq-laws}
 use Rattle.headers.specs.declared.Headers.{Headers}
 use Rattle.layout.specs.declared.Flags.{Flags}
-use Rattle.layout.specs.Layout.{headerList, headers, headersOf, flags, hexId, saltIf, ttlIf, address, callIf, floodIf, hopsIf, fragmentIf, streamIf, headersIf, opening, ends, way, options, Opening, Ends, Way, Options, messageOf, messageFlags, partsOf, parts, layout}
+use Rattle.layout.specs.Layout.{headers, headersOf, flags, hexId, saltIf, ttlIf, address, callIf, floodIf, hopsIf, fragmentIf, streamIf, headersIf, opening, ends, way, options, Opening, Ends, Way, Options, messageOf, partsOf, parts, layout}
 use Rattle.layout.proofs.Laws.{bits-number, headerList-between, flags-laws, hexId-laws, saltIf-laws, ttlIf-laws, address-laws, callIf-laws, floodIf-laws, hopsIf-laws, fragmentIf-laws, streamIf-laws, headersIf-laws}
 
 -- tidying flags changes nothing
