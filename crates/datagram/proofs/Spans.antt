@@ -15,22 +15,11 @@ use Rattle.octets.specs.declared.Read8.{Read8}
 use Rattle.octets.specs.declared.Read16.{Read16}
 use Rattle.octets.specs.declared.Read32.{Read32}
 use Rattle.octets.specs.declared.ReadSigned.{ReadSigned}
-use Rattle.octets.proofs.Tests.{true-not-false}
 use Rattle.octets.proofs.FieldLaws.{Laws, num-laws}
 use Rattle.layout.specs.Layout.{text}
 use Rattle.datagram.specs.Found.{found, finding, spans, textBehind}
 
--- ---- an answer, taken apart
-
-pub was-found : {A : Type 0} (x : Res A) (ok : Bool) (a : A) (n : ℕ) → found x ok a n → ok ≡ true → x ≡ got a n
-unfolding found
-was-found x true a n f e = f
-was-found x false a n f e = true-not-false false e refl
-
-pub not-found : {A : Type 0} (x : Res A) (ok : Bool) (a : A) (n : ℕ) → found x ok a n → ok ≡ false → x ≡ bad
-unfolding found
-not-found x true a n f e = true-not-false true refl e
-not-found x false a n f e = f
+-- ---- an answer, said another way
 
 -- the value, held another way
 pub found-as : {A B : Type 0} (to : A → B) (x : Res A) (s : List ℕ) (ok : Bool) (a : A) (b : B) (n : ℕ) → finding x s ok a n → b ≡ to a
