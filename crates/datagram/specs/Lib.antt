@@ -1,0 +1,3 @@
+-- Document 01, "The datagram": what the reader answers.
+pub mod Found
+pub mod Answer

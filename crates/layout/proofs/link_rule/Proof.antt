@@ -1,0 +1,19 @@
+-- Where the flag is set, a callsign.
+use borrow.Author.Needs.{needs}
+use Rattle.envelope.specs.Rules.{callIn}
+use Rattle.envelope.proofs.Given.{absent, present}
+use Rattle.layout.proofs.link_rule.Statement.{statement}
+use Rattle.layout.proofs.link_rule.Tie as tie
+
+returns : tie.Need-returns
+returns c =
+    let at-args = c .before .args in
+    absent (at-args .has) (callIn (at-args .link)) (c .if1 .taken)
+
+returns-2 : tie.Need-returns-2
+returns-2 c =
+    let at-args = c .before .before .args in
+    present (at-args .has) (callIn (at-args .link)) _ (c .before .if1 .left) (c .is-call .ensures)
+
+pub link-rule-spec : {M : Type 1} → statement M
+link-rule-spec = tie.close (tie.spec returns (λ c κs. search needs) returns-2)
