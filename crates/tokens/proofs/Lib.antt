@@ -1,2 +1,6 @@
 -- Laws of words and tokens, and what every public contract must show.
-pub mod Cuts
+pub mod Parts
+pub mod Words
+pub mod Lookups
+pub mod Keys
+pub mod Unique

@@ -1,7 +1,7 @@
 -- The part from the next byte on.
 use borrow.Author.Needs.{needs}
 use Rattle.tokens.specs.Cuts.{before}
-use Rattle.tokens.proofs.Cuts.{part-after, part-none}
+use Rattle.tokens.proofs.Parts.{part-after, part-none}
 use Rattle.tokens.proofs.after_byte.Statement.{statement}
 use Rattle.tokens.proofs.after_byte.Tie as tie
 

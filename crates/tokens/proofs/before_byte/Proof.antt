@@ -1,7 +1,7 @@
 -- The part up to the byte.
 use borrow.Author.Needs.{needs}
 use Rattle.tokens.specs.Cuts.{before}
-use Rattle.tokens.proofs.Cuts.{part-before}
+use Rattle.tokens.proofs.Parts.{part-before}
 use Rattle.tokens.proofs.before_byte.Statement.{statement}
 use Rattle.tokens.proofs.before_byte.Tie as tie
 

@@ -2,7 +2,7 @@
 use mathlib.Core.Path.{sym, _∙_}
 use borrow.Author.Needs.{needs}
 use Rattle.tokens.specs.Cuts.{before}
-use Rattle.tokens.proofs.Cuts.{has-before}
+use Rattle.tokens.proofs.Parts.{has-before}
 use Rattle.tokens.proofs.has_byte.Statement.{statement}
 use Rattle.tokens.proofs.has_byte.Tie as tie
 

@@ -5,9 +5,9 @@ use native.Mathlib.Omega.{arith}
 use borrow.Author.Needs.{needs}
 use lib.ListN.{length, drop}
 use Rattle.tokens.specs.Cuts.{before}
-use Rattle.tokens.proofs.Cuts.{run-here, run-next, run-end}
-use Rattle.tokens.proofs.run.Statement.{statement}
-use Rattle.tokens.proofs.run.Tie as tie
+use Rattle.tokens.proofs.Parts.{run-here, run-next, run-end}
+use Rattle.tokens.proofs.cuts.run.Statement.{statement}
+use Rattle.tokens.proofs.cuts.run.Tie as tie
 
 abbrev Inv-loop : tie.InvT-loop
 Inv-loop s c i₀ i = (i ≤ length s) × (length (before c s) ≡ i + length (before c (drop i s)))
