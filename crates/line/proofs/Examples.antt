@@ -17,7 +17,9 @@ use Rattle.envelope.specs.Texts.{held, padded}
 use Rattle.envelope.specs.Rules.{idIn, ttlIn, fragmentIn, callIn, streamIn, addressIn, envelope}
 use Rattle.tokens.specs.Cuts.{has, before, after, split}
 use Rattle.tokens.specs.Tokens.{given, value, others, lastOnly, keyed}
-use Rattle.line.specs.Reading.{plain, isText, framed, payloadGood, singlesGood, isPart, fragmentGood, streamGood, headersFit, headersOf, fieldsOf, valuesGood, wellFormed, chkRight, refusalOf}
+use Rattle.line_values.specs.Rules.{payloadGood, singlesGood, isPart, fragmentGood, streamGood}
+use Rattle.line_headers.specs.Headers.{headersFit, headersOf}
+use Rattle.line.specs.Reading.{plain, isText, framed, fieldsOf, valuesGood, wellFormed, chkRight, refusalOf}
 
 -- ihave 7e1f3a2 len=5 fmt=p s=1714982400000 src=G0ORIG dst=mail@G0RCV chk=97d9
 with-chk : refusalOf (105 ∷ 104 ∷ 97 ∷ 118 ∷ 101 ∷ 32 ∷ 55 ∷ 101 ∷ 49 ∷ 102 ∷ 51 ∷ 97 ∷ 50 ∷ 32 ∷ 108 ∷ 101 ∷ 110 ∷ 61 ∷ 53 ∷ 32 ∷ 102 ∷ 109 ∷ 116 ∷ 61 ∷ 112 ∷ 32 ∷ 115 ∷ 61 ∷ 49 ∷ 55 ∷ 49 ∷ 52 ∷ 57 ∷ 56 ∷ 50 ∷ 52 ∷ 48 ∷ 48 ∷ 48 ∷ 48 ∷ 48 ∷ 32 ∷ 115 ∷ 114 ∷ 99 ∷ 61 ∷ 71 ∷ 48 ∷ 79 ∷ 82 ∷ 73 ∷ 71 ∷ 32 ∷ 100 ∷ 115 ∷ 116 ∷ 61 ∷ 109 ∷ 97 ∷ 105 ∷ 108 ∷ 64 ∷ 71 ∷ 48 ∷ 82 ∷ 67 ∷ 86 ∷ 32 ∷ 99 ∷ 104 ∷ 107 ∷ 61 ∷ 57 ∷ 55 ∷ 100 ∷ 57 ∷ []) ≡ 0

@@ -16,7 +16,8 @@ use Rattle.crc16.specs.Crc.{crc16}
 use Rattle.envelope.specs.Rules.{callOf, addressOf, streamOf, envelope}
 use Rattle.tokens.specs.Tokens.{Token, token, wordOf, spaced}
 use Rattle.line.specs.declared.Line.{Line}
-use Rattle.line.specs.Reading.{ihave, 'p'}
+use Rattle.line_values.specs.Rules.{'p', slash}
+use Rattle.line.specs.Reading.{ihave}
 
 -- a token that is written where `on` is true
 pub record Choice : Type 0 where
@@ -32,7 +33,7 @@ chosen (c ∷ cs) = if c .on then (c .what ∷ chosen cs) else chosen cs
 
 -- N/M
 abbrev pub partText : ℕ → ℕ → List ℕ
-partText n m = decimal n ++ (0x2F ∷ decimal m)
+partText n m = decimal n ++ (slash ∷ decimal m)
 
 -- the writer's order: len fmt s ttl src mid frag sid sn gt; `fmt=p` always
 unfoldable pub choicesOf : Line → List Choice
