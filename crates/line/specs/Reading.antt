@@ -16,8 +16,9 @@ use Rattle.envelope.specs.Rules.{envelope}
 use Rattle.envelope.specs.declared.Envelope.{Envelope}
 use Rattle.tokens.specs.Cuts.{before, after}
 use Rattle.tokens.specs.Tokens.{Token, tokens, given, value, others, keyed, space}
-use Rattle.line_values.specs.Rules.{deflated, payloadGood, singlesGood, slash, fragmentGood, streamGood}
-use Rattle.line_values.specs.Answers.{lenOf}
+use Rattle.line_values.specs.Values.{slash}
+use Rattle.line_groups.specs.Rules.{deflated, payloadGood, singlesGood, fragmentGood, streamGood}
+use Rattle.line_groups.specs.Answers.{lenOf}
 use Rattle.line_headers.specs.Headers.{headersFit, headersOf}
 use Rattle.line.specs.declared.Line.{Line}
 use Rattle.line.specs.declared.LineAnswer.{LineAnswer}

@@ -16,7 +16,8 @@ use Rattle.crc16.specs.Crc.{crc16}
 use Rattle.envelope.specs.Rules.{callOf, addressOf, streamOf, envelope}
 use Rattle.tokens.specs.Tokens.{Token, token, wordOf, spaced}
 use Rattle.line.specs.declared.Line.{Line}
-use Rattle.line_values.specs.Rules.{'p', slash}
+use Rattle.line_values.specs.Values.{slash}
+use Rattle.line_groups.specs.Rules.{'p'}
 use Rattle.line.specs.Reading.{ihave}
 
 -- a token that is written where `on` is true

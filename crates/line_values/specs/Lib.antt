@@ -1,3 +1,2 @@
--- Document 01, "The ihave line": the values of a line's reserved keys.
-pub mod Rules
-pub mod Answers
+-- Document 01, "Names and fields": the values of a line's keys.
+pub mod Values

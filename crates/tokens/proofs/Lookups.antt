@@ -6,9 +6,9 @@ use mathlib.Core.List.{List, [], _∷_}
 use lib.ListN.{length, take, drop}
 use Rattle.octets.specs.Words.{_or_, some}
 use Rattle.octets.specs.Bytes.{same}
-use Rattle.octets.proofs.Tests.{if-yes, if-no, or-left, or-next}
+use Rattle.octets.proofs.Tests.{if-yes, if-no, or-left, or-next, true-not-false}
 use Rattle.tokens.specs.Cuts.{before, after}
-use Rattle.tokens.specs.Tokens.{tokens, given, value, space, equals}
+use Rattle.tokens.specs.Tokens.{Token, tokens, given, value, space, equals}
 use Rattle.tokens.specs.Steps.{tokensFrom, wordAt, foundIn}
 use Rattle.tokens.specs.declared.places.Found.{Found}
 use Rattle.tokens.specs.declared.places.Found.the-variants.{At, Missing}
@@ -65,3 +65,18 @@ module _ (k s : List ℕ) (r : Found) (h : foundIn k s r) where
   -- the word at the place, and what stands behind its `=`
   pub found-value : (i : ℕ) → r ≡ At i → (w v : List ℕ) → w ≡ before space (take (length s - i) (drop i s)) → v ≡ after equals w → v ≡ value k (tokens s)
   found-value i e w v is-word is-value = is-value ∙ ap (after equals) (word-is s i w is-word) ∙ sym (found-at i e .2)
+
+-- a key that is not there has no value
+pub value-missing : (k : List ℕ) (ts : List Token) → given k ts ≡ false → value k ts ≡ []
+unfolding given value
+value-missing k [] e = refl
+value-missing k (t ∷ ts) e =
+    if-no (same k (t .key)) (t .value) (value k ts) (or-left-no (same k (t .key)) (given k ts) e) ∙ value-missing k ts (or-right-no (same k (t .key)) (given k ts) e)
+  where
+    or-left-no : (a b : Bool) → a or b ≡ false → a ≡ false
+    or-left-no true b h = h
+    or-left-no false b h = refl
+
+    or-right-no : (a b : Bool) → a or b ≡ false → b ≡ false
+    or-right-no true b h = true-not-false true refl h
+    or-right-no false b h = h

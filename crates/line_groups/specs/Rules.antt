@@ -8,8 +8,8 @@ use Rattle.octets.specs.Bytes.{same}
 use Rattle.text.specs.Decimal.{isNumber, isSigned}
 use Rattle.text.specs.Hex.{isHex}
 use Rattle.names.specs.Reserved.{keyLen, keyFmt, keyS, keyClen, keyChk, keyTtl, keyMid, keyFrag, keySid, keySn, keyGt}
-use Rattle.tokens.specs.Cuts.{has, before, after}
 use Rattle.tokens.specs.Tokens.{Token, given, value}
+use Rattle.line_values.specs.Values.{isPart}
 
 -- both, or neither
 abbrev pub alike : Bool → Bool → Bool
@@ -40,13 +40,6 @@ payloadGood ts =
 -- `s` a signed number, `ttl` up to 2147483647, `chk` four hex digits
 unfoldable pub singlesGood : List Token → Bool
 singlesGood ts = optional keyS isSigned ts and (optional keyTtl (isNumber 2147483647) ts and optional keyChk (isHex 4) ts)
-
--- the slash of N/M, and N and M up to 65535
-abbrev pub slash : ℕ
-slash = 0x2F
-
-unfoldable pub isPart : List ℕ → Bool
-isPart v = has slash v and (isNumber 65535 (before slash v) and isNumber 65535 (after slash v))
 
 -- `mid` and `frag` both or neither
 unfoldable pub fragmentGood : List Token → Bool
