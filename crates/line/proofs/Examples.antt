@@ -67,7 +67,7 @@ two-spaces : refusalOf (105 ∷ 104 ∷ 97 ∷ 118 ∷ 101 ∷ 32 ∷ 55 ∷ 101
 unfolding same utf.run digits.value runs.run runs.rest alnum suffix baseLength callsign appByte atCallsign destination reserved reservedKeys textByte ruled idText streamId headerKey headerValue allDiffer keyOf keysOf valueOf header headers bitFeed held padded idIn ttlIn fragmentIn callIn streamIn addressIn envelope has before after split given value others lastOnly keyed plain isText framed payloadGood singlesGood isPart fragmentGood streamGood headersFit headersOf fieldsOf valuesGood wellFormed chkRight refusalOf
 two-spaces = refl
 
--- ihave 7e1f3a2 len=5 fmt=p dst=mail@G0RCV 
+-- ihave 7e1f3a2 len=5 fmt=p dst=mail@G0RCV
 end-space : refusalOf (105 ∷ 104 ∷ 97 ∷ 118 ∷ 101 ∷ 32 ∷ 55 ∷ 101 ∷ 49 ∷ 102 ∷ 51 ∷ 97 ∷ 50 ∷ 32 ∷ 108 ∷ 101 ∷ 110 ∷ 61 ∷ 53 ∷ 32 ∷ 102 ∷ 109 ∷ 116 ∷ 61 ∷ 112 ∷ 32 ∷ 100 ∷ 115 ∷ 116 ∷ 61 ∷ 109 ∷ 97 ∷ 105 ∷ 108 ∷ 64 ∷ 71 ∷ 48 ∷ 82 ∷ 67 ∷ 86 ∷ 32 ∷ []) ≡ 1
 unfolding same utf.run digits.value runs.run runs.rest alnum suffix baseLength callsign appByte atCallsign destination reserved reservedKeys textByte ruled idText streamId headerKey headerValue allDiffer keyOf keysOf valueOf header headers bitFeed held padded idIn ttlIn fragmentIn callIn streamIn addressIn envelope has before after split given value others lastOnly keyed plain isText framed payloadGood singlesGood isPart fragmentGood streamGood headersFit headersOf fieldsOf valuesGood wellFormed chkRight refusalOf
 end-space = refl

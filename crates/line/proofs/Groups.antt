@@ -37,24 +37,24 @@ module _ (id : ℕ) (ts : List Token) (q : Singles) (f : Fragment) (m : Stream) 
       → (v : List ℕ) (src : CallText) → v ≡ value keySrc ts → src ≡ callText v → (w : List ℕ) (sid : StreamText) → w ≡ value keySid ts → sid ≡ streamText w
       → (u : List ℕ) (dst : AddressText) → u ≡ value keyDst ts → dst ≡ addressText u
       → _≡_ {A = Envelope} (record {
-          id = id;
-          «has_salt» = q .«has_salt»;
-          salt = salt;
-          «has_ttl» = q .«has_ttl»;
-          ttl = q .ttl;
-          «has_src» = b;
-          src = src;
-          «has_fragment» = f .given;
-          mid = f .mid;
-          index = f .index;
-          total = f .total;
-          «has_stream» = m .given;
-          sid = sid;
-          sn = m .sn;
-          gt = m .gt;
-          headers = h;
-          dst = dst;
-        }) (gatherOf id ts q f m h)
+        id = id;
+        «has_salt» = q .«has_salt»;
+        salt = salt;
+        «has_ttl» = q .«has_ttl»;
+        ttl = q .ttl;
+        «has_src» = b;
+        src = src;
+        «has_fragment» = f .given;
+        mid = f .mid;
+        index = f .index;
+        total = f .total;
+        «has_stream» = m .given;
+        sid = sid;
+        sn = m .sn;
+        gt = m .gt;
+        headers = h;
+        dst = dst;
+      }) (gatherOf id ts q f m h)
   unfolding gatherOf
   put-together salt is-salt b is-b v src is-v is-src w sid is-w is-sid u dst is-u is-dst =
       rw (is-salt, is-b, is-src ∙ ap callText is-v, is-sid ∙ ap streamText is-w, is-dst ∙ ap addressText is-u)

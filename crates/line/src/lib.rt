@@ -31,10 +31,7 @@ fn refuse(number: u8) -> LineAnswer
     ensures { λ r. ⌜ r ≡ refusedBy number ⌝ }
 {
     let fields = envelope::blank();
-    let line = Line {
-        len: 0,
-        fields,
-    };
+    let line = Line { len: 0, fields };
     LineAnswer {
         reading: Reading::Refused(number),
         line,
@@ -86,13 +83,11 @@ pub fn read_line(s: &[u8]) -> LineAnswer
     if v.deflated {
         return refuse(refusals::FORMAT_D);
     }
-    if v.len > 4096 {
+    let len = v.len as usize;
+    if len > refusals::LONGEST_PAYLOAD {
         return refuse(refusals::PAYLOAD_TOO_LONG);
     }
-    let line = Line {
-        len: v.len,
-        fields,
-    };
+    let line = Line { len: v.len, fields };
     LineAnswer {
         reading: Reading::Read,
         line,

@@ -116,6 +116,7 @@ read-line-spec =
     returns-4
     (λ c κs. search needs)
     returns-5
+    (λ c. search needs)
     (λ c κs. search needs)
     returns-6
     returns-7)
