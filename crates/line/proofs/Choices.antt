@@ -1,6 +1,6 @@
 -- The tokens that a message is written as: looking a key up among choices, whose keys are known, computes.
 use Prim.Native.Nat.{ℕ}
-use mathlib.Core.Path.{_≡_, refl, ap, sym, _∙_}
+use mathlib.Core.Path.{_≡_, refl, ap, _∙_}
 use mathlib.Core.Bool.{Bool, true, false}
 use mathlib.Core.List.{List, [], _∷_, _++_}
 use Rattle.octets.specs.Words.{if_then_else_, _and_, _or_, no, every}

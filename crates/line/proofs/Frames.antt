@@ -6,7 +6,6 @@ use mathlib.Core.List.{List}
 use Rattle.octets.specs.Words.{_and_}
 use Rattle.octets.specs.Bytes.{same}
 use Rattle.octets.proofs.Tests.{and-next, and-not-left, and-not-right}
-use Rattle.text.specs.Hex.{isHex}
 use Rattle.tokens.specs.Tokens.{keyed}
 use Rattle.line_values.specs.Values.{masterOf}
 use Rattle.line_values.specs.declared.Master.{Master}

@@ -4,7 +4,6 @@ use mathlib.Core.Path.{_≡_, refl, ap, sym, _∙_}
 use mathlib.Core.Bool.{Bool, true, false}
 use mathlib.Core.List.{List}
 use lib.IntN.{ℤ}
-use Rattle.octets.specs.Words.{if_then_else_, _and_}
 use Rattle.octets.proofs.Tests.{if-yes, if-no, and-both, and-not-left, and-not-right}
 use Rattle.text.specs.Decimal.{number, signed}
 use Rattle.text.specs.Hex.{hexValue}

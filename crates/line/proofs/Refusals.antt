@@ -4,20 +4,19 @@ use mathlib.Core.Path.{_≡_, refl, ap, sym, _∙_}
 use mathlib.Core.Bool.{Bool, true, false}
 use mathlib.Core.List.{List}
 use borrow.Author.Tests.{lt-ltb, le-ltb}
-use Rattle.octets.specs.Words.{if_then_else_, _and_, no}
+use Rattle.octets.specs.Words.{_and_, no}
 use Rattle.octets.proofs.Tests.{if-yes, if-no, and-left, and-right, and-both, and-not-left, and-not-right, no-true, no-false}
 use Rattle.octets.specs.Bytes.{same}
-use Rattle.text.specs.Hex.{isHex, hexValue}
+use Rattle.text.specs.Hex.{hexValue}
 use Rattle.envelope.specs.Rules.{envelope}
 use Rattle.envelope.specs.declared.Envelope.{Envelope}
-use Rattle.tokens.specs.Tokens.{Token, tokens, keyed}
+use Rattle.tokens.specs.Tokens.{Token, tokens}
 use Rattle.line_values.specs.Values.{masterOf}
 use Rattle.line_values.specs.declared.Master.{Master}
 use Rattle.line_values.proofs.Picks.{picked-good, picked}
 use Rattle.line_values.proofs.Single.{master-good, master-says}
 use Rattle.line.specs.Reading.{ihave, verbWord, idWord, restOf, isText, framed, fieldsOf, lineOf, valuesGood, wellFormed, chkRight, refusalOf, answered, readOf}
 use Rattle.line.specs.Steps.{noValues, goodValues, valuesOf, rightChk, refusedBy}
-use Rattle.line.specs.declared.Line.{Line}
 use Rattle.line.specs.declared.LineAnswer.{LineAnswer}
 use Rattle.line.specs.declared.Reading.the-variants.{Read}
 use Rattle.line.specs.declared.values.Values.{Values}

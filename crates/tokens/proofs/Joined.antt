@@ -3,13 +3,13 @@ use Prim.Native.Nat.{ℕ}
 use mathlib.Core.Path.{_≡_, refl, ap, sym, _∙_}
 use mathlib.Core.Bool.{Bool, true, false}
 use mathlib.Core.List.{List, [], _∷_, _++_}
-use Rattle.octets.specs.Words.{if_then_else_, _and_, _or_, no, every, some}
+use Rattle.octets.specs.Words.{if_then_else_, _or_, no, every}
 use Rattle.octets.specs.Bytes.{same}
 use Rattle.octets.proofs.Lists.{same-eq}
 use Rattle.octets.proofs.Tests.{and-left, and-right, and-both, no-false, true-not-false}
 use Rattle.names.specs.Reserved.{reserved}
 use Rattle.headers.specs.Keys.{allDiffer}
-use Rattle.tokens.specs.Tokens.{Token, keys, given, value, others, none, lastOnly}
+use Rattle.tokens.specs.Tokens.{Token, keys, given, value, others, lastOnly}
 use Rattle.tokens.proofs.Written.{or-no-left, or-no-right, or-yes, no-not}
 
 or-assoc : (a b c : Bool) → a or (b or c) ≡ (a or b) or c

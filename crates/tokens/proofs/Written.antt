@@ -1,10 +1,10 @@
 -- Texts that are written word by word: cut again, they give the words, and the words give their tokens.
 use Prim.Native.Nat.{ℕ}
-use mathlib.Core.Path.{_≡_, refl, ap, sym, _∙_}
+use mathlib.Core.Path.{_≡_, refl, ap, _∙_}
 use mathlib.Core.Bool.{Bool, true, false}
 use mathlib.Core.List.{List, [], _∷_, _++_, map, append-assoc, append-nil}
 use borrow.Author.Tests.{eq-eqb, ne-eqb}
-use Rattle.octets.specs.Words.{if_then_else_, _and_, _or_, no, _=?_, every}
+use Rattle.octets.specs.Words.{_or_, no, _=?_, every}
 use Rattle.octets.proofs.Tests.{and-left, and-right, and-both, true-not-false}
 use Rattle.tokens.specs.Cuts.{has, before, after, split}
 use Rattle.tokens.specs.Tokens.{Token, tokenOf, words, space, equals, wordOf, spaced}
