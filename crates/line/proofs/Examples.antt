@@ -87,6 +87,38 @@ too-long : refusalOf 'too-long' ≡ 4
 unfolding same utf.run digits.value runs.run runs.rest alnum suffix baseLength callsign appByte atCallsign destination reserved reservedKeys textByte ruled idText streamId headerKey headerValue allDiffer keyOf keysOf valueOf header headers bitFeed held padded idIn ttlIn fragmentIn callIn streamIn addressIn envelope has before after split given value others lastOnly keyed plain isText framed payloadGood singlesGood isPart fragmentGood streamGood headersFit headersOf fieldsOf valuesGood wellFormed chkRight refusalOf
 too-long = refl
 
+-- no `len`: ihave 7e1f3a2 fmt=p dst=mail@G0RCV
+abbrev 'no-len' : List ℕ
+'no-len' = 105 ∷ 104 ∷ 97 ∷ 118 ∷ 101 ∷ 32 ∷ 55 ∷ 101 ∷ 49 ∷ 102 ∷ 51 ∷ 97 ∷ 50 ∷ 32 ∷ 102 ∷ 109 ∷ 116 ∷ 61 ∷ 112 ∷ 32 ∷ 100 ∷ 115 ∷ 116 ∷ 61 ∷ 109 ∷ 97 ∷ 105 ∷ 108 ∷ 64 ∷ 71 ∷ 48 ∷ 82 ∷ 67 ∷ 86 ∷ []
+
+no-len : refusalOf 'no-len' ≡ 1
+unfolding same utf.run digits.value runs.run runs.rest alnum suffix baseLength callsign appByte atCallsign destination reserved reservedKeys textByte ruled idText streamId headerKey headerValue allDiffer keyOf keysOf valueOf header headers bitFeed held padded idIn ttlIn fragmentIn callIn streamIn addressIn envelope has before after split given value others lastOnly keyed plain isText framed payloadGood singlesGood isPart fragmentGood streamGood headersFit headersOf fieldsOf valuesGood wellFormed chkRight refusalOf
+no-len = refl
+
+-- no `fmt`: ihave 7e1f3a2 len=5 dst=mail@G0RCV
+abbrev 'no-fmt' : List ℕ
+'no-fmt' = 105 ∷ 104 ∷ 97 ∷ 118 ∷ 101 ∷ 32 ∷ 55 ∷ 101 ∷ 49 ∷ 102 ∷ 51 ∷ 97 ∷ 50 ∷ 32 ∷ 108 ∷ 101 ∷ 110 ∷ 61 ∷ 53 ∷ 32 ∷ 100 ∷ 115 ∷ 116 ∷ 61 ∷ 109 ∷ 97 ∷ 105 ∷ 108 ∷ 64 ∷ 71 ∷ 48 ∷ 82 ∷ 67 ∷ 86 ∷ []
+
+no-fmt : refusalOf 'no-fmt' ≡ 1
+unfolding same utf.run digits.value runs.run runs.rest alnum suffix baseLength callsign appByte atCallsign destination reserved reservedKeys textByte ruled idText streamId headerKey headerValue allDiffer keyOf keysOf valueOf header headers bitFeed held padded idIn ttlIn fragmentIn callIn streamIn addressIn envelope has before after split given value others lastOnly keyed plain isText framed payloadGood singlesGood isPart fragmentGood streamGood headersFit headersOf fieldsOf valuesGood wellFormed chkRight refusalOf
+no-fmt = refl
+
+-- no `dst`: ihave 7e1f3a2 len=5 fmt=p
+abbrev 'no-dst' : List ℕ
+'no-dst' = 105 ∷ 104 ∷ 97 ∷ 118 ∷ 101 ∷ 32 ∷ 55 ∷ 101 ∷ 49 ∷ 102 ∷ 51 ∷ 97 ∷ 50 ∷ 32 ∷ 108 ∷ 101 ∷ 110 ∷ 61 ∷ 53 ∷ 32 ∷ 102 ∷ 109 ∷ 116 ∷ 61 ∷ 112 ∷ []
+
+no-dst : refusalOf 'no-dst' ≡ 1
+unfolding same utf.run digits.value runs.run runs.rest alnum suffix baseLength callsign appByte atCallsign destination reserved reservedKeys textByte ruled idText streamId headerKey headerValue allDiffer keyOf keysOf valueOf header headers bitFeed held padded idIn ttlIn fragmentIn callIn streamIn addressIn envelope has before after split given value others lastOnly keyed plain isText framed payloadGood singlesGood isPart fragmentGood streamGood headersFit headersOf fieldsOf valuesGood wellFormed chkRight refusalOf
+no-dst = refl
+
+-- `chk` in the middle: ihave 7e1f3a2 chk=97d9 len=5 fmt=p dst=mail@G0RCV
+abbrev 'chk-first' : List ℕ
+'chk-first' = 105 ∷ 104 ∷ 97 ∷ 118 ∷ 101 ∷ 32 ∷ 55 ∷ 101 ∷ 49 ∷ 102 ∷ 51 ∷ 97 ∷ 50 ∷ 32 ∷ 99 ∷ 104 ∷ 107 ∷ 61 ∷ 57 ∷ 55 ∷ 100 ∷ 57 ∷ 32 ∷ 108 ∷ 101 ∷ 110 ∷ 61 ∷ 53 ∷ 32 ∷ 102 ∷ 109 ∷ 116 ∷ 61 ∷ 112 ∷ 32 ∷ 100 ∷ 115 ∷ 116 ∷ 61 ∷ 109 ∷ 97 ∷ 105 ∷ 108 ∷ 64 ∷ 71 ∷ 48 ∷ 82 ∷ 67 ∷ 86 ∷ []
+
+chk-first : refusalOf 'chk-first' ≡ 1
+unfolding same utf.run digits.value runs.run runs.rest alnum suffix baseLength callsign appByte atCallsign destination reserved reservedKeys textByte ruled idText streamId headerKey headerValue allDiffer keyOf keysOf valueOf header headers bitFeed held padded idIn ttlIn fragmentIn callIn streamIn addressIn envelope has before after split given value others lastOnly keyed plain isText framed payloadGood singlesGood isPart fragmentGood streamGood headersFit headersOf fieldsOf valuesGood wellFormed chkRight refusalOf
+chk-first = refl
+
 -- two spaces: ihave 7e1f3a2  len=5 fmt=p dst=mail@G0RCV
 abbrev 'two-spaces' : List ℕ
 'two-spaces' = 105 ∷ 104 ∷ 97 ∷ 118 ∷ 101 ∷ 32 ∷ 55 ∷ 101 ∷ 49 ∷ 102 ∷ 51 ∷ 97 ∷ 50 ∷ 32 ∷ 32 ∷ 108 ∷ 101 ∷ 110 ∷ 61 ∷ 53 ∷ 32 ∷ 102 ∷ 109 ∷ 116 ∷ 61 ∷ 112 ∷ 32 ∷ 100 ∷ 115 ∷ 116 ∷ 61 ∷ 109 ∷ 97 ∷ 105 ∷ 108 ∷ 64 ∷ 71 ∷ 48 ∷ 82 ∷ 67 ∷ 86 ∷ []
