@@ -1,0 +1,119 @@
+-- Document 01, "The ihave line": what reading a line finds. The line is split into tokens, each key is looked up, and the rules are tests.
+use Prim.Native.Nat.{ℕ, zero, suc, _-_}
+use mathlib.Core.Bool.{Bool, true}
+use mathlib.Core.List.{List, [], _∷_}
+use lib.ListN.{length, take}
+use Rattle.octets.specs.Words.{if_then_else_, _and_, no, _<?_, _≤?_, _=?_, every}
+use Rattle.octets.specs.Bytes.{same}
+use Rattle.refusals.specs.Numbers.{lineMalformed, chkDiffers, formatD, payloadTooLong, longestPayload}
+use Rattle.utf8.specs.Utf8.{utf8}
+use Rattle.text.specs.Decimal.{number, signed}
+use Rattle.text.specs.Hex.{isHex, hexValue}
+use Rattle.names.specs.Reserved.{keyS, keyDst, keyChk, keyTtl, keySrc, keyMid, keyFrag, keySid, keySn, keyGt}
+use Rattle.crc16.specs.Crc.{crc16}
+use Rattle.envelope.specs.Texts.{callText, addressText, streamText, blankEnvelope}
+use Rattle.envelope.specs.Rules.{envelope}
+use Rattle.envelope.specs.declared.Envelope.{Envelope}
+use Rattle.tokens.specs.Cuts.{before, after}
+use Rattle.tokens.specs.Tokens.{Token, tokens, given, value, others, keyed, space}
+use Rattle.line_values.specs.Values.{slash}
+use Rattle.line_groups.specs.Rules.{deflated, payloadGood, singlesGood, fragmentGood, streamGood}
+use Rattle.line_groups.specs.Answers.{lenOf}
+use Rattle.line_headers.specs.Headers.{headersFit, headersOf}
+use Rattle.line.specs.declared.Line.{Line}
+use Rattle.line.specs.declared.LineAnswer.{LineAnswer}
+use Rattle.line.specs.declared.Reading.the-variants.{Read, Refused}
+
+-- ---- the line's text, its first two words, and the tokens behind them
+
+-- `ihave`
+abbrev pub ihave : List ℕ
+ihave = 105 ∷ 104 ∷ 97 ∷ 118 ∷ 101 ∷ []
+
+abbrev pub verbWord : List ℕ → List ℕ
+verbWord s = before space s
+
+abbrev pub idWord : List ℕ → List ℕ
+idWord s = before space (after space s)
+
+abbrev pub restOf : List ℕ → List ℕ
+restOf s = after space (after space s)
+
+-- no byte below 0x20, no 0x7F
+unfoldable pub plain : ℕ → Bool
+plain x = 0x20 ≤? x and no (x =? 0x7F)
+
+-- at most 512 bytes, well-formed UTF-8
+unfoldable pub isText : List ℕ → Bool
+isText s = length s ≤? 512 and (utf8 s and every plain s)
+
+-- `ihave`, the id, then `key=value` tokens, one space between, none at the end (a space more would make an empty word, which has no `=`);
+-- no key twice; `chk`, if present, is last
+unfoldable pub framed : List ℕ → Bool
+framed s = same (verbWord s) ihave and (isHex 7 (idWord s) and keyed (restOf s))
+
+-- ---- what the line says
+
+-- the fields, by the id and the tokens; the value of a key that is not there is empty, and spells 0
+unfoldable pub fieldsOf : ℕ → List Token → Envelope
+fieldsOf id ts = record {
+  id = id;
+  «has_salt» = given keyS ts;
+  salt = signed (value keyS ts);
+  «has_ttl» = given keyTtl ts;
+  ttl = number (value keyTtl ts);
+  «has_src» = given keySrc ts;
+  src = callText (value keySrc ts);
+  «has_fragment» = given keyMid ts;
+  mid = hexValue (value keyMid ts);
+  index = number (before slash (value keyFrag ts));
+  total = number (after slash (value keyFrag ts));
+  «has_stream» = given keySid ts;
+  sid = streamText (value keySid ts);
+  sn = number (value keySn ts);
+  gt = number (value keyGt ts);
+  headers = headersOf (others ts);
+  dst = addressText (value keyDst ts);
+}
+
+unfoldable pub lineOf : List ℕ → Line
+lineOf s = record { len = lenOf (tokens (restOf s)); fields = fieldsOf (hexValue (idWord s)) (tokens (restOf s)) }
+
+-- ---- the refusals
+
+-- every rule of the line holds; what it says keeps the rules of every message (a missing or too long `dst` is no destination there,
+-- a too long `src` no callsign, a too long `sid` no stream id, a too long header key no key)
+unfoldable pub valuesGood : List Token → Bool
+valuesGood ts = payloadGood ts and (singlesGood ts and (fragmentGood ts and (streamGood ts and headersFit ts)))
+
+unfoldable pub wellFormed : List ℕ → Bool
+wellFormed s =
+    isText s
+    and (framed s
+    and (valuesGood (tokens (restOf s))
+    and envelope (fieldsOf (hexValue (idWord s)) (tokens (restOf s)))))
+
+-- `chk`, where it is there, is the check of the bytes before the space that precedes it: all but the last nine, ` chk=` and four digits
+unfoldable pub chkRight : List ℕ → List Token → Bool
+chkRight s ts = if given keyChk ts then crc16 (take (length s - 9) s) =? hexValue (value keyChk ts) else true
+
+-- the number that refuses the line, the lowest first; 0 where none does
+unfoldable pub refusalOf : List ℕ → ℕ
+refusalOf s =
+    if no (wellFormed s) then lineMalformed
+    else if no (chkRight s (tokens (restOf s))) then chkDiffers
+    else if deflated (tokens (restOf s)) then formatD
+    else if longestPayload <? lenOf (tokens (restOf s)) then payloadTooLong
+    else 0
+
+-- ---- the answer: the line, or the number of a refusal beside the blank line
+
+unfoldable pub blankLine : Line
+blankLine = record { len = 0; fields = blankEnvelope }
+
+abbrev pub answered : ℕ → Line → LineAnswer
+answered zero m = record { reading = Read; line = m }
+answered (suc n) m = record { reading = Refused (suc n); line = blankLine }
+
+unfoldable pub readOf : List ℕ → LineAnswer
+readOf s = answered (refusalOf s) (lineOf s)

@@ -1,0 +1,81 @@
+// The answers with no values: a group whose rules do not hold, and one that is not there.
+use crate::Fragment;
+use crate::Payload;
+use crate::Singles;
+use crate::Stream;
+ghost use mathlib.Core.Path.{_≡_};
+ghost use Rattle.octets.specs.Words.{_or_};
+ghost use Rattle.names.specs.Reserved.{keySn, keyGt};
+ghost use Rattle.tokens.specs.Tokens.{tokens, given};
+ghost use Rattle.line_groups.specs.Answers.{noPayload, plainPayload, noSingles, noFragment, noStream};
+
+pub(crate) fn no_payload() -> Payload
+    ensures { λ r. ⌜ r ≡ noPayload ⌝ }
+{
+    Payload {
+        good: false,
+        len: 0,
+        deflated: false,
+    }
+}
+
+// The answer for `fmt=p`, where there may be no `clen`.
+pub(crate) fn plain(len: u32, clen: bool) -> Payload
+    ensures { λ r. ⌜ r ≡ plainPayload len clen ⌝ }
+{
+    if clen {
+        return no_payload();
+    }
+    Payload {
+        good: true,
+        len,
+        deflated: false,
+    }
+}
+
+pub(crate) fn no_singles() -> Singles
+    ensures { λ r. ⌜ r ≡ noSingles ⌝ }
+{
+    Singles {
+        good: false,
+        has_salt: false,
+        salt: 0,
+        has_ttl: false,
+        ttl: 0,
+        has_chk: false,
+        chk: 0,
+    }
+}
+
+pub(crate) fn no_fragment(good: bool) -> Fragment
+    ensures { λ r. ⌜ r ≡ noFragment good ⌝ }
+{
+    Fragment {
+        good,
+        given: false,
+        mid: 0,
+        index: 0,
+        total: 0,
+    }
+}
+
+pub(crate) fn no_stream(good: bool) -> Stream
+    ensures { λ r. ⌜ r ≡ noStream good ⌝ }
+{
+    Stream {
+        good,
+        given: false,
+        sn: 0,
+        gt: 0,
+    }
+}
+
+// Whether `sn` or `gt` is there.
+pub(crate) fn numbered(t: &[u8]) -> bool
+    ensures { λ r. ⌜ r ≡ (given keySn (tokens (now (t .entry))) or given keyGt (tokens (now (t .entry)))) ⌝ }
+{
+    if tokens::is_given(t, b"sn") {
+        return true;
+    }
+    tokens::is_given(t, b"gt")
+}

@@ -1,0 +1,2 @@
+-- Document 01, "Names and fields": the values of a line's keys.
+pub mod Values
