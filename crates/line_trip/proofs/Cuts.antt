@@ -21,7 +21,7 @@ or-no true b e = true-not-false true refl e
 or-no false b e = (refl, e)
 
 module _ (c : ℕ) where
-  split-end : (w : List ℕ) → has c w ≡ false → split c w ≡ w ∷ []
+  pub split-end : (w : List ℕ) → has c w ≡ false → split c w ≡ w ∷ []
   unfolding has split
   split-end [] h = refl
   split-end (x ∷ w) h = let e = or-no (x =? c) (has c w) h in rw (e .0, split-end w (e .1))

@@ -6,3 +6,4 @@ pub mod Values
 pub mod Tidied
 pub mod Message
 pub mod RoundTrip
+pub mod OneByte
