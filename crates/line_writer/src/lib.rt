@@ -66,7 +66,7 @@ pub fn write_line(m: Line, out: &mut [u8]) -> Writing
     }
     let d = print(m);
     let n = d.len;
-    if 512 < n {
+    if n > 512 {
         return Writing::Refused(refusals::LINE_MALFORMED);
     }
     if 4096 < m.len {
