@@ -1,7 +1,13 @@
-// Document 01, "The ihave line": a line read.
+// Document 01, "The ihave line": a line read. The line is cut into tokens, and each key is looked up among them, so that keys may come in
+// any order; the fields are then held to the rules that every message keeps (`envelope`).
 use envelope::Envelope;
 ghost use mathlib.Core.Path.{_≡_};
-ghost use Rattle.line.specs.Reading.{blankLine};
+ghost use Prim.Native.Nat.{_-_, _≤_};
+ghost use Rattle.line.specs.Reading.{readOf};
+ghost use Rattle.line.specs.Steps.{rightChk, refusedBy};
+
+mod frame;
+mod values;
 
 // An offer as the line has it: the payload's length, and the fields that a datagram has too.
 pub struct Line {
@@ -21,10 +27,69 @@ pub struct LineAnswer {
     pub line: Line,
 }
 
-// The line of no message.
-fn blank_line() -> Line
-    ensures { λ r. ⌜ r ≡ blankLine ⌝ }
+fn refuse(number: u8) -> LineAnswer
+    ensures { λ r. ⌜ r ≡ refusedBy number ⌝ }
 {
     let fields = envelope::blank();
-    Line { len: 0, fields }
+    let line = Line { len: 0, fields };
+    LineAnswer {
+        reading: Reading::Refused(number),
+        line,
+    }
+}
+
+fn without(n: usize, m: usize) -> usize
+    ensures { λ r. ⌜ (r ≡ n - m) × (r ≤ n) ⌝ }
+{
+    if n < m {
+        return 0;
+    }
+    n - m
+}
+
+// Whether the check is that of the bytes before the space that precedes `chk=`: the last nine are ` chk=` and four digits.
+fn is_right(s: &[u8], has_chk: bool, chk: u16) -> bool
+    ensures { λ r. ⌜ r ≡ rightChk (now (s .entry)) «has_chk» chk ⌝ }
+{
+    if !has_chk {
+        return true;
+    }
+    let n = without(s.len(), 9);
+    if crc16::crc(&s[0..n]) != chk {
+        return false;
+    }
+    true
+}
+
+// Reads a line, which is given without its LF.
+pub fn read_line(s: &[u8]) -> LineAnswer
+    ensures { λ r. ⌜ r ≡ readOf (now (s .entry)) ⌝ }
+{
+    if !frame::is_framed(s) {
+        return refuse(refusals::LINE_MALFORMED);
+    }
+    let id = frame::read_id(s);
+    let v = values::read_values(id.id, frame::rest(s));
+    if !v.good {
+        return refuse(refusals::LINE_MALFORMED);
+    }
+    let fields = v.fields;
+    if !envelope::is_valid(fields) {
+        return refuse(refusals::LINE_MALFORMED);
+    }
+    if !is_right(s, v.has_chk, v.chk) {
+        return refuse(refusals::CHK_DIFFERS);
+    }
+    if v.deflated {
+        return refuse(refusals::FORMAT_D);
+    }
+    let len = v.len as usize;
+    if len > refusals::LONGEST_PAYLOAD {
+        return refuse(refusals::PAYLOAD_TOO_LONG);
+    }
+    let line = Line { len: v.len, fields };
+    LineAnswer {
+        reading: Reading::Read,
+        line,
+    }
 }

@@ -3,10 +3,10 @@ use Prim.Native.Nat.{ℕ}
 use mathlib.Core.Path.{_≡_, refl, ap, sym, _∙_}
 use mathlib.Core.Bool.{Bool, true, false, not}
 use mathlib.Core.List.{List, []}
-use Rattle.octets.specs.Words.{if_then_else_, _and_, _or_, no}
+use Rattle.octets.specs.Words.{_or_}
 use Rattle.octets.specs.Bytes.{same}
 use Rattle.octets.proofs.Lists.{same-eq}
-use Rattle.octets.proofs.Tests.{if-yes, if-no, and-both, and-not-left, and-not-right, or-left, or-next, no-true, no-false}
+use Rattle.octets.proofs.Tests.{if-yes, if-no, and-both, and-not-left, and-not-right, or-left, or-next}
 use Rattle.text.specs.Digits as digits
 use Rattle.text.specs.Decimal.{isNumber, number}
 use Rattle.text.specs.Hex.{isHex, hexValue}

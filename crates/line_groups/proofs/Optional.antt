@@ -4,7 +4,7 @@ use mathlib.Core.Path.{_≡_, refl, ap, sym, _∙_}
 use mathlib.Core.Bool.{Bool, true, false}
 use mathlib.Core.List.{List, []}
 use lib.IntN.{ℤ, pos}
-use Rattle.octets.specs.Words.{if_then_else_, _and_}
+use Rattle.octets.specs.Words.{if_then_else_}
 use Rattle.octets.proofs.Tests.{if-yes, if-no, and-both, and-not-left, and-not-right}
 use Rattle.text.specs.Digits as digits
 use Rattle.text.specs.Decimal.{isNumber, number, isSigned, signed}

@@ -1,19 +1,18 @@
 -- Gathering headers token by token comes to all tokens whose keys are not reserved, in order.
-use Prim.Native.Nat.{ℕ, suc, _+_, _≤_, _<_}
+use Prim.Native.Nat.{ℕ, _+_, _≤_, _<_}
 use mathlib.Core.Path.{_≡_, refl, ap, sym, _∙_}
 use mathlib.Core.Bool.{Bool, true, false}
 use mathlib.Core.List.{List, [], _∷_, _++_, map, append-nil, append-assoc}
 use native.Mathlib.Omega.{arith}
 use lib.ListN.{length, getD, set, drop, replicate, length-append, length-map, length-replicate}
 use lib.Seq.{set-at}
-use borrow.Author.Tests.{le-leb, lt-leb, lt-ltb, le-ltb, ltb-true, ltb-false}
+use borrow.Author.Tests.{le-leb, lt-leb, ltb-true, ltb-false}
 use Rattle.octets.specs.Words.{if_then_else_, _and_, _<?_, _≤?_, every}
 use Rattle.octets.proofs.Lists.{drop-next}
-use Rattle.octets.proofs.Tests.{if-yes, if-no, and-next, and-not-left, and-not-right, and-both}
+use Rattle.octets.proofs.Tests.{if-yes, if-no, and-not-left, and-not-right, and-both}
 use Rattle.names.specs.Reserved.{reserved}
 use Rattle.headers.specs.declared.Header.{Header}
-use Rattle.headers.specs.declared.Headers.{Headers}
-use Rattle.envelope.specs.Texts.{headerText, noHeaders, withHeader, held, padded}
+use Rattle.envelope.specs.Texts.{headerText, noHeaders, withHeader}
 use Rattle.tokens.specs.Tokens.{Token, others}
 use Rattle.line_headers.specs.Headers.{shortValue, headersFit, headerOf, headersOf, headersReadOf}
 use Rattle.line_headers.specs.Steps.{fits, unfit, pushOf, gather}

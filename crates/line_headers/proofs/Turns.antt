@@ -1,11 +1,11 @@
 -- One turn of the loop over the words: the headers gathered so far and the tokens from a place on decide.
 use Prim.Native.Nat.{ℕ, _+_, _-_, _≤_, _<_}
-use mathlib.Core.Path.{_≡_, refl, ap, sym, _∙_}
+use mathlib.Core.Path.{_≡_, ap, sym, _∙_}
 use mathlib.Core.Bool.{Bool, true, false}
 use mathlib.Core.List.{List}
 use lib.ListN.{length, take, drop}
 use borrow.Author.Tests.{lt-ltb, le-ltb, le-leb, lt-leb}
-use Rattle.octets.specs.Words.{if_then_else_, _and_, _<?_}
+use Rattle.octets.specs.Words.{_<?_}
 use Rattle.octets.proofs.Tests.{if-yes, if-no, and-both, and-not-left, and-not-right}
 use Rattle.names.specs.Reserved.{reserved}
 use Rattle.headers.specs.declared.Header.{Header}
@@ -15,8 +15,8 @@ use Rattle.tokens.specs.Cuts.{before, after}
 use Rattle.tokens.specs.Tokens.{Token, token, tokens, space, equals}
 use Rattle.tokens.specs.Steps.{tokensFrom}
 use Rattle.tokens.proofs.Words.{word-is, tokens-start, tokens-next, tokens-end}
-use Rattle.line_headers.specs.Headers.{shortValue, headerOf, headersReadOf}
-use Rattle.line_headers.specs.Steps.{fits, unfit, pushOf, gather}
+use Rattle.line_headers.specs.Headers.{headerOf, headersReadOf}
+use Rattle.line_headers.specs.Steps.{fits, pushOf, gather}
 use Rattle.line_headers.specs.declared.HeadersRead.{HeadersRead}
 use Rattle.line_headers.proofs.Gathered.{gather-stays, all-gathered}
 

@@ -1,5 +1,4 @@
 -- Document 01, "The ihave line": other keys are headers, kept in order.
-use Prim.Native.Nat.{ℕ}
 use mathlib.Core.Bool.{Bool, true, false}
 use mathlib.Core.List.{List, [], map}
 use lib.ListN.{length, replicate}

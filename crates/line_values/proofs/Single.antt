@@ -1,15 +1,13 @@
 -- Single values: what the readers of `text` find, as this crate answers it.
 use Prim.Native.Nat.{ℕ, _≤_}
 use mathlib.Core.Path.{_≡_, refl, ap, sym, _∙_}
-use mathlib.Core.Bool.{Bool, true, false}
-use mathlib.Core.List.{List, []}
-use lib.IntN.{ℤ, pos}
-use Rattle.octets.specs.Words.{if_then_else_, _and_}
+use mathlib.Core.Bool.{true, false}
+use mathlib.Core.List.{List}
+use lib.IntN.{pos}
 use Rattle.octets.proofs.Tests.{if-yes, if-no, and-both, and-not-left, and-not-right}
 use Rattle.text.specs.Decimal.{isNumber, number, numberOf, isSigned, signed, signedOf}
 use Rattle.text.specs.Hex as hex
 use Rattle.text.specs.Hex.{isHex, hexValue}
-use Rattle.text.specs.Steps.{atMost}
 use Rattle.text.specs.declared.Number.{Number}
 use Rattle.text.specs.declared.Number.the-variants as unsigned
 use Rattle.text.specs.declared.Signed.{Signed}

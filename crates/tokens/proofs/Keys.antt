@@ -2,7 +2,7 @@
 use Prim.Native.Nat.{ℕ, _+_, _-_, _≤_, _<_}
 use mathlib.Core.Path.{_≡_, refl, ap, sym, _∙_}
 use mathlib.Core.Bool.{Bool, true, false}
-use mathlib.Core.List.{List, [], _∷_, map}
+use mathlib.Core.List.{List, _∷_, map}
 use native.Mathlib.Omega.{arith}
 use lib.ListN.{length, take, drop}
 use Rattle.octets.specs.Words.{_and_, _or_, no, every, some}
@@ -13,17 +13,10 @@ use Rattle.headers.specs.Keys.{allDiffer}
 use Rattle.tokens.specs.Cuts.{has, before}
 use Rattle.tokens.specs.Tokens.{tokenOf, tokens, keys, given, none, lastOnly, keyed, space, equals}
 use Rattle.tokens.specs.Steps.{wordsFrom, tokensFrom, wordAt, mayStand}
+use Rattle.tokens.proofs.Written.{or-yes}
 use Rattle.tokens.proofs.Words.{part-from, word-is, words-here, words-start, words-next, words-end, tokens-next, tokens-end}
 
 -- ---- what may follow a key
-
-or-yes : (a : Bool) → a or true ≡ true
-or-yes true = refl
-or-yes false = refl
-
-and-yes : (a b : Bool) → b ≡ true → a and b ≡ a
-and-yes true b e = e
-and-yes false b e = refl
 
 module _ (s k : List ℕ) (end : ℕ) where
   pub stand-last : end ≡ length s → true ≡ mayStand k (keys (tokensFrom (end + 1) s))

@@ -3,4 +3,6 @@ pub mod Parts
 pub mod Words
 pub mod Lookups
 pub mod Keys
+pub mod Written
+pub mod Joined
 pub mod Unique

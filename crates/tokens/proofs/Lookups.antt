@@ -4,14 +4,14 @@ use mathlib.Core.Path.{_≡_, refl, ap, sym, _∙_}
 use mathlib.Core.Bool.{Bool, true, false}
 use mathlib.Core.List.{List, [], _∷_}
 use lib.ListN.{length, take, drop}
-use Rattle.octets.specs.Words.{_or_, some}
 use Rattle.octets.specs.Bytes.{same}
-use Rattle.octets.proofs.Tests.{if-yes, if-no, or-left, or-next, true-not-false}
+use Rattle.octets.proofs.Tests.{if-yes, if-no, or-left, or-next}
 use Rattle.tokens.specs.Cuts.{before, after}
 use Rattle.tokens.specs.Tokens.{Token, tokens, given, value, space, equals}
 use Rattle.tokens.specs.Steps.{tokensFrom, wordAt, foundIn}
 use Rattle.tokens.specs.declared.places.Found.{Found}
 use Rattle.tokens.specs.declared.places.Found.the-variants.{At, Missing}
+use Rattle.tokens.proofs.Written.{or-no-left, or-no-right}
 use Rattle.tokens.proofs.Words.{word-is, tokens-start, tokens-next, tokens-end}
 
 -- what is asked of the tokens: whether the key is there, and its value
@@ -71,12 +71,4 @@ pub value-missing : (k : List ℕ) (ts : List Token) → given k ts ≡ false �
 unfolding given value
 value-missing k [] e = refl
 value-missing k (t ∷ ts) e =
-    if-no (same k (t .key)) (t .value) (value k ts) (or-left-no (same k (t .key)) (given k ts) e) ∙ value-missing k ts (or-right-no (same k (t .key)) (given k ts) e)
-  where
-    or-left-no : (a b : Bool) → a or b ≡ false → a ≡ false
-    or-left-no true b h = h
-    or-left-no false b h = refl
-
-    or-right-no : (a b : Bool) → a or b ≡ false → b ≡ false
-    or-right-no true b h = true-not-false true refl h
-    or-right-no false b h = h
+    if-no (same k (t .key)) (t .value) (value k ts) (or-no-left (same k (t .key)) (given k ts) e) ∙ value-missing k ts (or-no-right (same k (t .key)) (given k ts) e)

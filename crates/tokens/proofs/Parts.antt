@@ -8,7 +8,7 @@ use native.Mathlib.Numerals.{add-one}
 use lib.ListN.{length, getD, take, drop, length-drop, drop-of-length-le}
 use lib.Seq.{take-all}
 use lib.Dec.{leb·suc-suc}
-use borrow.Author.Tests.{lt-ltb, le-ltb, eq-eqb, ne-eqb}
+use borrow.Author.Tests.{lt-ltb, eq-eqb, ne-eqb}
 use Rattle.octets.specs.Words.{if_then_else_, _or_, _<?_, _=?_}
 use Rattle.octets.proofs.Lists.{drop-next}
 use Rattle.octets.proofs.Tests.{if-yes, if-no}
