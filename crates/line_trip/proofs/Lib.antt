@@ -1,0 +1,9 @@
+-- The round trip of the ihave line.
+pub mod Texts
+pub mod Cuts
+pub mod Lookups
+pub mod Values
+pub mod Tidied
+pub mod Message
+pub mod RoundTrip
+pub mod OneByte
