@@ -1,0 +1,2 @@
+-- Cuts make no difference.
+pub mod Cuts

@@ -1,0 +1,2 @@
+-- A machine that is fed bytes.
+pub mod Machine

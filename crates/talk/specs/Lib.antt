@@ -1,0 +1,3 @@
+-- Document 01, "The receiving session": what a whole line and a whole payload lead to.
+pub mod Sessions
+pub mod Talk

@@ -1,0 +1,85 @@
+-- Document 01, "The receiving session": what a whole line and a whole payload lead to: the reply, what happened, and the session after it.
+use Prim.Native.Nat.{ℕ}
+use mathlib.Core.List.{List, [], _++_}
+use Rattle.octets.specs.Words.{if_then_else_, _=?_}
+use Rattle.sha1.specs.declared.Sha1.{Sha1}
+use Rattle.sha1.specs.Machine.{finished}
+use Rattle.sha1.specs.Id.{idNumber}
+use Rattle.line.specs.declared.Line.{Line}
+use Rattle.line.specs.declared.Reading.{Reading}
+use Rattle.line.specs.Reading.{blankLine, readOf}
+use Rattle.phrases.specs.declared.Kind.{Kind}
+use Rattle.phrases.specs.Lines.{kindOf, isData, tokenOf}
+use Rattle.phrases.specs.Replies.{LF, 'error', sends, errs, acks, bads, bye, help, eh, wrote}
+use Rattle.talk.specs.declared.Terms.{Terms}
+use Rattle.talk.specs.declared.Event.{Event}
+use Rattle.talk.specs.declared.Session.{Session}
+use Rattle.talk.specs.declared.Said.{Said}
+use Rattle.talk.specs.Sessions.{termsOf, salted, listening, promised, receiving, closed}
+
+-- an event, with the fields of the line where it is an offer
+pub record Happening : Type 0 where
+  pub event : Event
+  pub line : Line
+
+abbrev pub nothing : Happening
+nothing = record { event = Event.Nothing; line = blankLine }
+
+abbrev pub offer : Line → Happening
+offer m = record { event = Event.Offer (termsOf m); line = m }
+
+abbrev pub message : Terms → Happening
+message t = record { event = Event.Message t; line = blankLine }
+
+abbrev pub ended : ℕ → Happening
+ended reason = record { event = Event.End reason; line = blankLine }
+
+-- what is said, what happened, and the session after it
+pub record Turn : Type 0 where
+  pub reply : List ℕ
+  pub happening : Happening
+  pub next : Session
+
+-- a reply, and the session is closed, or goes on with the next line
+abbrev pub closing : List ℕ → ℕ → Turn
+closing w reason = record { reply = w; happening = ended reason; next = closed }
+
+abbrev pub goingOn : List ℕ → Turn
+goingOn w = record { reply = w; happening = nothing; next = listening }
+
+-- ---- a payload that is there as a whole: id right or wrong, then the prompt; a message needs `ack`
+
+unfoldable pub completed : Terms → Sha1 → Turn
+completed t h =
+    if idNumber (finished h) =? t .id then record { reply = acks (t .id); happening = message t; next = listening }
+    else goingOn (bads (t .id))
+
+-- ---- a line between messages
+
+-- valid: `send ID`; invalid: close after `error T`, with the line's own reason
+abbrev pub offered : List ℕ → Reading → Line → Turn
+offered s Reading.Read m = record { reply = sends (m .fields .id); happening = offer m; next = promised (termsOf m) }
+offered s (Reading.Refused n) m = closing (errs (tokenOf s)) n
+
+abbrev pub heardAs : Kind → List ℕ → Turn
+heardAs Kind.Ihave s = offered s (readOf s .reading) (readOf s .line)
+-- `data` with no offer: `error`, close
+heardAs Kind.Data s = closing ('error' ++ LF) 1
+heardAs Kind.Leave s = closing bye 0
+heardAs Kind.Ask s = goingOn help
+heardAs Kind.Other s = goingOn eh
+
+unfoldable pub heard : List ℕ → Turn
+heard s = heardAs (kindOf s) s
+
+-- ---- the line after `send`: `data ID`, the same id; else close, nothing written. `len=0` completes at the data line
+
+unfoldable pub dataHeard : Terms → List ℕ → Turn
+dataHeard t s =
+    if isData (t .id) s then (if t .len =? 0 then completed t (salted t) else record { reply = []; happening = nothing; next = receiving t })
+    else closing [] 1
+
+-- ---- as the code has it: the reply stands at the front of a lent buffer
+
+abbrev pub saidIn : Turn → List ℕ → Said
+saidIn t buffer = record { written = wrote (t .reply) buffer; event = t .happening .event; line = t .happening .line; session = t .next }

@@ -1,0 +1,123 @@
+// Document 01, "The receiving session": what a whole line and a whole payload lead to.
+ghost use mathlib.Core.Path.{_≡_};
+ghost use Rattle.octets.specs.Bytes.{placed};
+ghost use Rattle.talk.specs.Sessions.{listening, closed};
+ghost use Rattle.talk.specs.Talk.{completed, heard, dataHeard, saidIn};
+
+mod lines;
+mod states;
+
+use line::Line;
+use phrases::Reply;
+use sha1::Sha1;
+
+// The numbers of an offer: its id (28 bits), its salt where it has one, and the payload's length.
+pub struct Terms {
+    pub id: u32,
+    pub has_salt: bool,
+    pub salt: i64,
+    pub len: u32,
+}
+
+// What happened. An end has its reason: 0 after `bye`, 1 to 4 from a line, else 1.
+pub enum Event {
+    Nothing,
+    Offer(Terms),
+    Message(Terms),
+    End(u8),
+}
+
+// Mode 0: between messages. 1: an offer waits for its data line. 2: its payload comes. 3: closed. The line so far is the first `line_len`
+// bytes of `line`, zero past them; `got` bytes of the payload have come, and `hash` is their running digest.
+pub struct Session {
+    pub mode: u8,
+    pub line_len: usize,
+    pub line: [u8; 512],
+    pub terms: Terms,
+    pub got: usize,
+    pub hash: Sha1,
+}
+
+// What was said and what happened: the bytes written, the event with the fields of its line, and the session after it.
+pub struct Said {
+    pub written: usize,
+    pub event: Event,
+    pub line: Line,
+    pub session: Session,
+}
+
+// A session between messages.
+pub fn listening() -> Session
+    ensures { λ r. ⌜ r ≡ listening ⌝ }
+{
+    states::entered(0, states::no_terms(), Sha1::new())
+}
+
+// A closed session.
+pub fn closed() -> Session
+    ensures { λ r. ⌜ r ≡ closed ⌝ }
+{
+    states::entered(3, states::no_terms(), Sha1::new())
+}
+
+// A line between messages.
+pub fn hear(s: &[u8], reply: &mut [u8]) -> Said
+    ensures { λ r. ⌜ (r ≡ saidIn (heard (now (s .entry))) (now (reply .entry))) × (now (reply .exit) ≡ placed (heard (now (s .entry)) .reply) 0 (now (reply .entry))) ⌝ }
+{
+    let k = phrases::kind_of(s);
+    match k {
+        phrases::Kind::Ihave => lines::hear_offer(s, reply),
+        phrases::Kind::Data => lines::ends(Reply::Error, &s[0..0], 1, reply),
+        phrases::Kind::Leave => lines::ends(Reply::Bye, s, 0, reply),
+        phrases::Kind::Ask => lines::goes_on(Reply::Help, s, reply),
+        phrases::Kind::Other => lines::goes_on(Reply::Eh, s, reply),
+    }
+}
+
+// The line after `send`.
+pub fn hear_data(terms: Terms, s: &[u8], reply: &mut [u8]) -> Said
+    ensures { λ r. ⌜ (r ≡ saidIn (dataHeard terms (now (s .entry))) (now (reply .entry))) × (now (reply .exit) ≡ placed (dataHeard terms (now (s .entry)) .reply) 0 (now (reply .entry))) ⌝ }
+{
+    if !phrases::is_data(terms.id, s) {
+        return lines::ends(Reply::Silence, s, 1, reply);
+    }
+    let hash = states::salted(terms);
+    if terms.len == 0 {
+        return complete(terms, hash, reply);
+    }
+    let session = states::entered(2, terms, hash);
+    let line = states::no_line();
+    Said {
+        written: 0,
+        event: Event::Nothing,
+        line,
+        session,
+    }
+}
+
+// A payload that is there as a whole, by its digest.
+pub fn complete(terms: Terms, hash: Sha1, reply: &mut [u8]) -> Said
+    ensures { λ r. ⌜ (r ≡ saidIn (completed terms hash) (now (reply .entry))) × (now (reply .exit) ≡ placed (completed terms hash .reply) 0 (now (reply .entry))) ⌝ }
+{
+    let session = listening();
+    let line = states::no_line();
+    let id = terms.id;
+    if hash.id() == id {
+        let written = phrases::say(Reply::Ack(id), b"", reply);
+        let event = Event::Message(terms);
+        return Said {
+            written,
+            event,
+            line,
+            session,
+        };
+    }
+    let written = phrases::say(Reply::Bad(id), b"", reply);
+    let event = Event::Nothing;
+    Said {
+        written,
+        event,
+        line,
+        session,
+    }
+}
