@@ -8,7 +8,7 @@ use crate::session::{Event, Session, PROMPT};
 use crate::streams::{Held, Table};
 
 pub struct Bench {
-    table: Table,
+    pub table: Table,
     groups: Groups,
     session: Option<Session>,
     payload: Vec<u8>,
@@ -217,13 +217,13 @@ impl Bench {
                 None => "refused 16".into(),
             }),
             [b"fragment", o, mid, n, m, time, b] => {
-                let (o, mid) = (originator(o)?, hex(mid, 7)?);
+                let (o, mid) = (originator(o)?, master(mid)?);
                 let (n, m, time, b) = (number(n, 65535)? as u16, number(m, 65535)? as u16, n32(time)?, bytes(b)?);
                 let store = &mut self.store[..self.lent.2];
                 refused(self.groups.add(store, o.as_deref(), mid, n, m, time, &b), |()| "accepted".into())
             }
             [b"collect", o, mid, room] => {
-                let (o, mid, room) = (originator(o)?, hex(mid, 7)?, number(room, 16384)?);
+                let (o, mid, room) = (originator(o)?, master(mid)?, number(room, 16384)?);
                 let store = &self.store[..self.lent.2];
                 refused(self.groups.collect(store, o.as_deref(), mid, room), |b| format!("joined {}", escape(&b)))
             }
@@ -263,6 +263,10 @@ impl Bench {
         };
         Some(format!("used {used} {event} reply {}", escape(&reply)))
     }
+}
+
+fn master(word: &[u8]) -> Option<u32> {
+    hex(&bytes(word)?, 7)
 }
 
 fn originator(word: &[u8]) -> Option<Option<Vec<u8>>> {

@@ -1,5 +1,5 @@
 //! Scripts made at random: valid, damaged and cut anywhere, with the edges likely.
-use crate::bench::escape;
+use crate::bench::{escape, Bench};
 use crate::datagram::{self, Datagram};
 use crate::hash::{crc16, message_id};
 use crate::message::{write_line, Message};
@@ -59,30 +59,31 @@ const APP: &[u8] = b"abcXYZ019-_.";
 const VISIBLE: &[u8] = b"!\"#$&'()*+,-./0123456789:;<>?@AZ[]^_`az{|}~%";
 
 fn callsign(d: &mut Dice) -> Vec<u8> {
-    if d.chance(92) {
+    if d.chance(85) {
         return d.pick(&[&b"G0ORIG"[..], b"M0LTE-9", b"G7VVK-15", b"A", b"gb7rdg", b"GB7RDG"]).to_vec();
     }
-    let n = match d.roll(6) {
+    let n = match d.roll(20) {
         0 => d.length(9),
         _ => 1 + d.roll(9),
     };
     let mut s = d.of(ALNUM, n);
-    match d.roll(8) {
+    match d.roll(20) {
         0 => s.extend(format!("-{}", d.roll(18)).bytes()),
-        1 => s.extend(format!("-{}", 1 + d.roll(15)).bytes()),
-        2 => s.extend(*d.pick(&[&b"-01"[..], b"-0", b"-", b"-16", b"-1x", b"--1", b"-150"])),
+        1 => s.extend(*d.pick(&[&b"-01"[..], b"-0", b"-", b"-16", b"-1x", b"--1", b"-150"])),
+        2..=8 => s.extend(format!("-{}", 1 + d.roll(15)).bytes()),
         _ => {}
     }
     s
 }
 
 fn destination(d: &mut Dice) -> Vec<u8> {
-    let n = match d.roll(6) {
+    let n = match d.roll(20) {
         0 => d.length(32),
+        1..=5 => 1 + d.roll(32),
         _ => 1 + d.roll(8),
     };
     let mut s = d.of(APP, n);
-    if !d.chance(2) {
+    if !d.chance(1) {
         s.push(b'@');
     }
     s.extend(callsign(d));
@@ -97,12 +98,19 @@ fn visible(d: &mut Dice, n: usize) -> Vec<u8> {
             0 => s.extend("é".bytes()),
             1 => s.extend("€".bytes()),
             2 => s.extend("𐍈".bytes()),
-            3 if d.chance(10) => s.push(d.roll(256) as u8),
+            3 if d.chance(2) => s.push(d.roll(256) as u8),
             _ => s.push(*d.pick(VISIBLE)),
         }
     }
-    s.truncate(n.max(1));
-    if n == 0 { vec![] } else { s }
+    // cut at a character's end, and at times within it
+    while s.len() > n && !d.chance(3) {
+        s.pop();
+        while s.last().is_some_and(|b| *b >= 0x80) && std::str::from_utf8(&s).is_err() {
+            s.pop();
+        }
+    }
+    s.truncate(n);
+    s
 }
 
 fn stream_id(d: &mut Dice) -> Vec<u8> {
@@ -128,14 +136,14 @@ fn message(d: &mut Dice) -> Message {
     if d.chance(30) {
         m.stream = Some((stream_id(d), d.time(), d.time()));
     }
-    for i in 0..if d.chance(20) { d.roll(10) } else { d.roll(3) } {
-        let n = if d.chance(10) { d.length(32) } else { 1 + d.roll(6) };
+    for i in 0..if d.chance(10) { d.roll(10) } else { d.roll(3) } {
+        let n = if d.chance(5) { d.length(31) } else { d.roll(6) };
         let mut key = visible(d, n);
         key.retain(|&b| b != b'=');
-        if !d.chance(5) {
+        if !d.chance(2) {
             key.push(b'0' + i as u8);
         }
-        let n = if d.chance(10) { d.length(128) } else { d.roll(8) };
+        let n = if d.chance(5) { d.length(128) } else { d.roll(8) };
         m.headers.push((key, visible(d, n)));
     }
     m
@@ -154,16 +162,16 @@ fn line(d: &mut Dice) -> Vec<u8> {
         let (i, j) = (2 + d.roll(words.len() - 2), 2 + d.roll(words.len() - 2));
         words.swap(i, j);
     }
-    if d.chance(50) {
+    if d.chance(30) {
         for _ in 0..1 + d.roll(2) {
             damage(d, &mut words);
         }
     }
     let mut out = words.join(&b' ');
-    match d.roll(6) {
-        0 => {}
-        1 => out.extend(format!(" chk={:04x}", d.roll(65536)).bytes()),
-        2 => out.extend(*d.pick(&[&b" chk=ABCD"[..], b" chk=", b" chk=12345", b" ", b" chk=29b"])),
+    match d.roll(24) {
+        0..=5 => {}
+        6 => out.extend(format!(" chk={:04x}", d.roll(65536)).bytes()),
+        7 => out.extend(*d.pick(&[&b" chk=ABCD"[..], b" chk=", b" chk=12345", b" ", b" chk=29b"])),
         _ => out.extend(format!(" chk={:04x}", crc16(&out)).into_bytes()),
     }
     if d.chance(8) {
@@ -303,19 +311,24 @@ fn exchange(d: &mut Dice) -> Vec<u8> {
     out
 }
 
-/// The script so far.
-struct Script(Vec<u8>);
+/// The script so far, and a bench that has answered it, so that the next line can follow from the answers.
+struct Script {
+    text: Vec<u8>,
+    bench: Bench,
+}
 
 impl Script {
-    fn say(&mut self, words: &[&str]) {
-        self.0.extend(words.join(" ").bytes());
-        self.0.push(b'\n');
+    fn say(&mut self, words: &[&str]) -> String {
+        let line = words.join(" ");
+        self.text.extend(line.bytes());
+        self.text.push(b'\n');
+        self.bench.line(line.as_bytes()).unwrap_or_default()
     }
 }
 
 pub fn script(seed: u64, lines: usize, area: &str) -> Option<Vec<u8>> {
     let mut d = Dice(seed.wrapping_mul(0x9E3779B97F4A7C15) ^ area.len() as u64);
-    let mut out = Script(vec![]);
+    let mut out = Script { text: vec![], bench: Bench::new() };
     let one: fn(&mut Dice, &mut Script) = match area {
         "hashes" => hashes,
         "text" => text,
@@ -330,11 +343,11 @@ pub fn script(seed: u64, lines: usize, area: &str) -> Option<Vec<u8>> {
     };
     let mut count = 0;
     while count < lines {
-        let from = out.0.len();
+        let from = out.text.len();
         one(&mut d, &mut out);
-        count += out.0[from..].iter().filter(|&&b| b == b'\n').count();
+        count += out.text[from..].iter().filter(|&&b| b == b'\n').count();
     }
-    Some(out.0)
+    Some(out.text)
 }
 
 fn hashes(d: &mut Dice, out: &mut Script) {
@@ -346,9 +359,9 @@ fn hashes(d: &mut Dice, out: &mut Script) {
         1 => out.say(&["crc", &b]),
         _ => {
             let s = d.salt().map_or("~".into(), |s| s.to_string());
-            out.say(&["id", &s, &b]);
+            out.say(&["id", &s, &b])
         }
-    }
+    };
 }
 
 fn text(d: &mut Dice, out: &mut Script) {
@@ -395,6 +408,7 @@ fn datagrams(d: &mut Dice, out: &mut Script) {
     }
 }
 
+/// A conversation cut anywhere; what a call left unused is offered again with the bytes that follow it.
 fn sessions(d: &mut Dice, out: &mut Script) {
     if d.chance(5) {
         let (p, r) = (*d.pick(&[4096, 4095, 0]), *d.pick(&[64, 24, 23, 0]));
@@ -405,19 +419,23 @@ fn sessions(d: &mut Dice, out: &mut Script) {
     }
     out.say(&["open"]);
     let bytes = conversation(d);
+    let finest = *d.pick(&[1, 2, 4, 4, 4]);
     let mut at = 0;
     while at < bytes.len() {
-        let n = match d.roll(4) {
-            0 => 1,
-            1 => 1 + d.roll(8),
-            2 => 1 + d.roll(100),
+        let n = match d.roll(finest) {
+            0 => 1 + d.roll(8),
+            1 => 1 + d.roll(100),
             _ => bytes.len() - at,
         };
-        let n = n.min(bytes.len() - at);
-        out.say(&["feed", &escape(&bytes[at..at + n])]);
-        at += n;
+        let answer = out.say(&["feed", &escape(&bytes[at..bytes.len().min(at + n)])]);
+        let used = answer.strip_prefix("used ").and_then(|a| a.split(' ').next()?.parse::<usize>().ok());
+        let Some(used) = used else { break };
+        at += used;
         if d.chance(3) {
             out.say(&["feed", "-"]);
+        }
+        if d.chance(3) {
+            out.say(&["fill", &d.roll(256).to_string()]);
         }
     }
     out.say(&["peek", "payload", &d.roll(60).to_string(), &(1 + d.roll(60)).to_string()]);
@@ -426,36 +444,50 @@ fn sessions(d: &mut Dice, out: &mut Script) {
 }
 
 fn stream_call(d: &mut Dice, out: &mut Script) {
-    let (o, s) = match d.roll(8) {
+    let (o, s) = match d.roll(24) {
         0 => (escape(&callsign(d)), escape(&stream_id(d))),
-        n => (["G0ORIG", "M0LTE-9"][n % 2].to_string(), ["chat", "r2"][n / 4].to_string()),
+        n => (["G0ORIG", "M0LTE-9"][n % 2].to_string(), ["chat", "r2"][n / 16].to_string()),
     };
+    let expected = out.bench.table.expected(o.as_bytes(), s.as_bytes());
     let time = d.time().to_string();
-    match d.roll(12) {
-        0..=5 => {
-            let n = match d.roll(60) {
+    match d.roll(16) {
+        0..=8 => {
+            let n = match d.roll(40) {
                 0 => 0,
-                1 => u32::MAX,
-                2 => u32::MAX - 1,
-                _ => (out.0.len() / 4000 + d.roll(20)) as u32,
+                1 => u32::MAX.into(),
+                2 => u64::from(u32::MAX) - 1,
+                3 => expected.saturating_sub(1),
+                4..=12 => expected,
+                13 => expected + 15,
+                14 => expected + 16,
+                _ => expected + d.roll(18) as u64,
             };
-            let timeout = d.pick(&[0, 1, 600, u32::MAX]).to_string();
-            out.say(&["offer", &o, &s, &n.to_string(), &timeout, &d.roll(1000).to_string(), &time]);
+            let timeout = d.pick(&[0, 1, 600, 600, u32::MAX]).to_string();
+            out.say(&["offer", &o, &s, &n.min(u32::MAX.into()).to_string(), &timeout, &d.roll(1000).to_string(), &time])
         }
-        6..=8 => out.say(&["take", &o, &s, &time]),
-        9 => out.say(&["force", &o, &s, &time]),
-        10 => out.say(&["close", &o, &s]),
+        9..=12 => out.say(&["take", &o, &s, &time]),
+        13 => out.say(&["force", &o, &s, &time]),
+        14 => out.say(&["close", &o, &s]),
         _ => {
             let room = d.pick(&["16384", "16384", "3", "2", "0"]).to_string();
-            out.say(&["save", &room]);
+            out.say(&["save", &room])
         }
-    }
+    };
 }
 
 fn streams(d: &mut Dice, out: &mut Script) {
-    if d.chance(2) {
+    if d.chance(1) {
+        out.say(&["load", "SE%00"]);
+    }
+    if d.roll(400) == 0 {
         for i in 0..34 {
             out.say(&["offer", "G0ORIG", &format!("many{i}"), "2", "600", "1", "5"]);
+        }
+    }
+    if d.roll(100) == 0 {
+        let first = out.bench.table.expected(b"G0ORIG", b"chat") + 1;
+        for n in first..first + 17 {
+            out.say(&["offer", "G0ORIG", "chat", &n.min(u32::MAX.into()).to_string(), "600", "3", "9"]);
         }
     }
     stream_call(d, out);
@@ -533,61 +565,62 @@ fn images(d: &mut Dice, out: &mut Script) {
             0 => out.say(&["take", "G0ORIG", &s, &time]),
             1 => out.say(&["offer", "G0ORIG", &s, &d.roll(20).to_string(), "600", "7", &time]),
             _ => out.say(&["force", "G0ORIG", &s, &time]),
-        }
+        };
     }
 }
 
 fn fragments(d: &mut Dice, out: &mut Script) {
+    let few = d.chance(85);
     let o = match d.roll(4) {
         0 => "~".into(),
-        1 if d.chance(30) => escape(&callsign(d)),
+        1 if d.chance(10) => escape(&callsign(d)),
         _ => "G0ORIG".into(),
     };
-    let mid = d.pick(&["1234567", "abcdef0", "0000000", "fffffff", "7e1f3a2"]).to_string();
+    let mid = if few { d.pick(&["1234567", "abcdef0"]) } else { d.pick(&["0000000", "fffffff", "7e1f3a2"]) }.to_string();
     let time = d.time().to_string();
-    match d.roll(16) {
+    match d.roll(32) {
         0 if d.chance(20) => {
             let len = d.pick(&["65535", "1", "0"]).to_string();
-            out.say(&["store", &len]);
+            out.say(&["store", &len])
         }
-        1 => out.say(&["sweep", &time]),
-        2..=4 => {
+        1 => out.say(&["sweep", if d.chance(50) { "4294967295" } else { &time }]),
+        2..=8 => {
             let room = d.pick(&["16384", "16384", "100", "0"]).to_string();
-            out.say(&["collect", &o, &mid, &room]);
+            out.say(&["collect", &o, &mid, &room])
         }
-        5 => {
+        9 => {
             let at = d.roll(65000);
-            out.say(&["peek", "store", &at.to_string(), &(1 + d.roll(500)).to_string()]);
+            out.say(&["peek", "store", &at.to_string(), &(1 + d.roll(500)).to_string()])
         }
-        6 => out.say(&["store", "65536"]),
+        10..=12 => out.say(&["store", "65536"]),
         _ => {
-            let m = if d.chance(90) { 2 + mid.len() % 3 + usize::from(mid.starts_with('7')) } else { *d.pick(&[2, 16, 17, 1, 0]) };
+            let m = if d.chance(90) { if mid.starts_with('1') { 2 } else { 3 } } else { *d.pick(&[2, 16, 17, 1, 0]) };
             let n = if d.chance(90) { 1 + d.roll(m.max(1)) } else { d.roll(m + 2) };
             let len = if d.chance(15) { d.length(1024) } else { d.roll(12) };
             let b = escape(&d.bytes(len));
-            out.say(&["fragment", &o, &mid, &n.to_string(), &m.to_string(), &time, &b]);
+            out.say(&["fragment", &o, &mid, &n.to_string(), &m.to_string(), &time, &b])
         }
-    }
+    };
 }
 
 fn grammar(d: &mut Dice, out: &mut Script) {
     let made: [fn(&mut Dice, &mut Script); 8] = [hashes, text, lines_area, datagrams, sessions, streams, images, fragments];
-    let from = out.0.len();
+    let from = out.text.len();
     d.pick(&made)(d, out);
     if d.chance(50) {
-        let at = from + d.roll(out.0.len() - from);
+        let at = from + d.roll(out.text.len() - from);
         match d.roll(5) {
-            0 => out.0.insert(at, b' '),
-            1 => out.0[at] = d.roll(256) as u8,
-            2 => drop(out.0.remove(at)),
-            3 => out.0.insert(at, b'%'),
-            _ => out.0.insert(at, b'\n'),
+            0 => out.text.insert(at, b' '),
+            1 => out.text[at] = d.roll(256) as u8,
+            2 => drop(out.text.remove(at)),
+            3 => out.text.insert(at, b'%'),
+            _ => out.text.insert(at, b'\n'),
         }
     }
     if d.chance(2) {
         let n = 49980 + d.roll(40);
-        out.0.extend(b"sha1 ");
-        out.0.extend(std::iter::repeat(b'a').take(n));
-        out.0.push(b'\n');
+        out.text.extend(*d.pick(&[&b"sha1 "[..], b"# ", b" "]));
+        out.text.extend(std::iter::repeat(b'a').take(n));
+        out.text.push(b'\n');
     }
 }

@@ -99,6 +99,9 @@ impl Table {
     fn find(&self, o: &[u8], s: &[u8]) -> Option<usize> {
         self.0.iter().position(|r| r.as_ref().is_some_and(|r| r.originator == o && r.stream == s))
     }
+    pub fn expected(&self, o: &[u8], s: &[u8]) -> u64 {
+        self.find(o, s).and_then(|i| self.0[i].as_ref()).map_or(1, |r| r.expected)
+    }
     pub fn offer(&mut self, o: &[u8], s: &[u8], held: Held, time: u32) -> Result<(), u8> {
         key_refusal(o, s)?;
         if let Some(i) = self.find(o, s) {
