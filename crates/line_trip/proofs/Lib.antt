@@ -7,3 +7,4 @@ pub mod Tidied
 pub mod Message
 pub mod RoundTrip
 pub mod OneByte
+pub mod Calls
