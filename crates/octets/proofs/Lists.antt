@@ -1,16 +1,20 @@
 -- Lists that a loop goes through: the rest decides. Each law is over the element.
 use mathlib.Core.Path.{_≡_, refl, ap, sym, _∙_}
 use mathlib.Core.Bool.{Bool, true, false}
-use mathlib.Core.List.{List, [], _∷_, _++_, append-assoc}
+use mathlib.Core.List.{List, [], _∷_, _++_, append-assoc, map}
 use Prim.Native.Nat.{ℕ, zero, suc, _+_, _≤_, _<_}
 use native.Mathlib.Omega.{arith}
 use native.Mathlib.Numerals.{add-one}
-use lib.ListN.{length, getD, take, drop, set, length-append, length-drop, length-take, length-set, take-append-drop}
+use lib.ListN.{length, getD, take, drop, set, length-append, length-drop, length-take, length-set, length-map, take-append-drop}
 use lib.Seq.{drop-cons, drop-length, drop-set-lt, take-suc-set}
 use borrow.Author.Tests.{le-leb, lt-leb, leb-true, eq-eqb, ne-eqb, eqb-true}
 use Rattle.octets.specs.Words.{if_then_else_, _and_, every, some, _=?_}
 use Rattle.octets.specs.Bytes.{same, fits, placed}
 use Rattle.octets.proofs.Tests.{if-yes, if-no, and-left, and-right, and-next, and-not-left, true-not-false}
+
+-- the length of an array of structs, which the check tells of its elements read one by one
+pub unmapped : (X Y : Type 0) (f : X → Y) (l : List X) (n : ℕ) → length (map f l) ≡ n → length l ≡ n
+unmapped X Y f l n e = sym (length-map l f) ∙ e
 
 -- ---- one element, and the rest
 
@@ -119,6 +123,20 @@ placed-next x w at l h =
     (sym (placed-in w (at + 1) (set l at x) k
     ∙ rw (drop-set-lt (at + 1 + length w) l at x (omega arith), add-one)
     (rw (take-suc-set l at x (omega arith), append-assoc))))
+
+-- v behind w: the two stand together as one
+pub placed-append : {A : Type 0} (w v : List A) (at : ℕ) (l : List A) → at + (length w + length v) ≤ length l → placed v (at + length w) (placed w at l) ≡ placed (w ++ v) at l
+placed-append [] v at l h =
+    let z : at + 0 ≡ at = omega arith in
+    ap (λ (n : ℕ). placed v n (placed [] at l)) z ∙ ap (placed v at) (placed-none at l (omega arith))
+placed-append (x ∷ w) v at l h =
+    let z : at + suc (length w) ≡ at + 1 + length w = omega arith in
+    let k : at + 1 + (length w + length v) ≤ length (set l at x) = rw length-set (omega arith) in
+    let n : at + suc (length (w ++ v)) ≤ length l = rw length-append (omega arith) in
+    ap (λ (i : ℕ). placed v i (placed (x ∷ w) at l)) z
+    ∙ ap (placed v (at + 1 + length w)) (placed-next x w at l (omega arith))
+    ∙ placed-append w v (at + 1) (set l at x) k
+    ∙ sym (placed-next x (w ++ v) at l n)
 
 -- a copy that has come to the place i: what is left is placed behind it
 pub placed-on : {A : Type 0} (w : List A) (d : A) (at i : ℕ) (l : List A) → i < length w → at + length w ≤ length l

@@ -1,0 +1,3 @@
+-- Document 01, "The datagram": what the writer answers and leaves.
+pub mod Answer
+pub mod Steps
