@@ -10,9 +10,9 @@ use lib.Seq.{take-add}
 use Rattle.octets.specs.Words.{if_then_else_, _=?_}
 use Rattle.octets.specs.Bytes.{placed}
 use Rattle.octets.proofs.Lists.{placed-in, placed-none, placed-next}
-use Rattle.sha1.specs.declared.Hash.{Hash}
+use Rattle.sha1_block.specs.declared.Hash.{Hash}
 use Rattle.sha1.specs.declared.Sha1.{Sha1}
-use Rattle.sha1.specs.Sha1.{block, compressed, chain}
+use Rattle.sha1_block.specs.Block.{block, compressed, chain}
 use Rattle.sha1.specs.Machine.{fed, fedAll}
 
 -- feeding two parts, one after the other, is feeding the whole

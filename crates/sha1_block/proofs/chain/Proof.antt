@@ -5,9 +5,9 @@ use native.Mathlib.Omega.{arith}
 use native.Mathlib.Numerals.{add-one}
 use borrow.Author.Needs.{needs}
 use lib.ListN.{length}
-use Rattle.sha1.specs.Sha1 as fips
-use Rattle.sha1.proofs.block.chain.Statement.{statement}
-use Rattle.sha1.proofs.block.chain.Tie as tie
+use Rattle.sha1_block.specs.Block as fips
+use Rattle.sha1_block.proofs.chain.Statement.{statement}
+use Rattle.sha1_block.proofs.chain.Tie as tie
 
 abbrev Inv-loop : tie.InvT-loop
 Inv-loop s v₀ n₀ v n = (n ≤ length s / 64) × (v ≡ fips.chain v₀ s n)

@@ -1,8 +1,8 @@
 -- Each addition wraps at 2^32.
 use borrow.Author.Needs.{needs}
-use Rattle.sha1.specs.Sha1 as fips
-use Rattle.sha1.proofs.block.plus.Statement.{statement}
-use Rattle.sha1.proofs.block.plus.Tie as tie
+use Rattle.sha1_block.specs.Block as fips
+use Rattle.sha1_block.proofs.block.plus.Statement.{statement}
+use Rattle.sha1_block.proofs.block.plus.Tie as tie
 
 returns : tie.Need-returns
 unfolding fips.plus

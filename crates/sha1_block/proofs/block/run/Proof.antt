@@ -4,10 +4,10 @@ use mathlib.Core.Path.{_≡_, ap, _∙_}
 use native.Mathlib.Omega.{arith}
 use native.Mathlib.Numerals.{add-one}
 use borrow.Author.Needs.{needs}
-use Rattle.sha1.specs.declared.Hash.{Hash}
-use Rattle.sha1.specs.Sha1 as fips
-use Rattle.sha1.proofs.block.run.Statement.{statement}
-use Rattle.sha1.proofs.block.run.Tie as tie
+use Rattle.sha1_block.specs.declared.Hash.{Hash}
+use Rattle.sha1_block.specs.Block as fips
+use Rattle.sha1_block.proofs.block.run.Statement.{statement}
+use Rattle.sha1_block.proofs.block.run.Tie as tie
 
 abbrev Inv-loop : tie.InvT-loop
 Inv-loop w from to s₀ t₀ s t = (t ≤ to) × ((h : Hash) → s₀ ≡ fips.rounds w from h → s ≡ fips.rounds w t h)

@@ -5,10 +5,10 @@ use native.Mathlib.Omega.{arith}
 use borrow.Author.Needs.{needs}
 use lib.ListN.{length, take, drop, length-set}
 use lib.Seq.{take-all}
-use Rattle.sha1.specs.Sha1 as fips
-use Rattle.sha1.proofs.Schedule.{word-part, more, early, late}
-use Rattle.sha1.proofs.block.schedule.Statement.{statement}
-use Rattle.sha1.proofs.block.schedule.Tie as tie
+use Rattle.sha1_block.specs.Block as fips
+use Rattle.sha1_block.proofs.Schedule.{word-part, more, early, late}
+use Rattle.sha1_block.proofs.block.schedule.Statement.{statement}
+use Rattle.sha1_block.proofs.block.schedule.Tie as tie
 
 abbrev Inv-loop : tie.InvT-loop
 Inv-loop s at w₀ t₀ w t = (t ≤ 16) × (length w ≡ 80) × (take t w ≡ fips.schedule (take 64 (drop at s)) t)

@@ -2,9 +2,8 @@
 ghost use mathlib.Core.Path.{_≡_};
 ghost use Prim.Native.Nat.{_+_, _*_, _/_, _%_, _^_, _<_, _≤_};
 ghost use lib.ListN.{length, take, drop};
-ghost use Rattle.octets.specs.Words.{if_then_else_, _=?_};
-ghost use Rattle.sha1.specs.declared.Hash.{Hash};
-ghost use Rattle.sha1.specs.Sha1 as fips;
+ghost use Rattle.sha1_block.specs.declared.Hash.{Hash};
+ghost use Rattle.sha1_block.specs.Block as fips;
 use super::Hash;
 
 fn rotl(n: u32, x: u32) -> u32
@@ -110,7 +109,7 @@ fn run(v: Hash, w: &[u32; 80], from: usize, to: usize) -> Hash
 }
 
 // The hash value after the block at `at`. Each run is of one function and one constant, so that its tests fold away.
-fn compress(h: Hash, s: &[u8], at: usize) -> Hash
+pub(crate) fn compress(h: Hash, s: &[u8], at: usize) -> Hash
     requires { ⌜ at + 64 ≤ length (now s) ⌝ }
     ensures { λ r. ⌜ r ≡ fips.compressed h (take 64 (drop at (now (s .entry)))) ⌝ }
 {
@@ -118,27 +117,4 @@ fn compress(h: Hash, s: &[u8], at: usize) -> Hash
     let x = run(run(h, &w, 0, 20), &w, 20, 40);
     let v = run(run(x, &w, 40, 60), &w, 60, 80);
     plus(h, v)
-}
-
-// The hash value after a block of which n bytes are filled: only a full one is taken.
-pub(crate) fn taken(h: Hash, filled: &[u8; 64], n: usize) -> Hash
-    ensures { λ r. ⌜ r ≡ (if n =? 64 then fips.compressed h (now (filled .entry)) else h) ⌝ }
-{
-    if n == 64 {
-        return compress(h, filled, 0);
-    }
-    h
-}
-
-// The hash value after the whole blocks of s.
-pub(crate) fn chain(h: Hash, s: &[u8]) -> Hash
-    ensures { λ r. ⌜ r ≡ fips.chain h (now (s .entry)) (length (now (s .entry)) / 64) ⌝ }
-{
-    let mut v = h;
-    let mut n: usize = 0;
-    while n < s.len() / 64 {
-        v = compress(v, s, 64 * n);
-        n += 1;
-    }
-    v
 }

@@ -1,9 +1,9 @@
 -- Four runs make the eighty rounds.
 use mathlib.Core.Path.{refl, ap, _∙_}
 use borrow.Author.Needs.{needs}
-use Rattle.sha1.specs.Sha1 as fips
-use Rattle.sha1.proofs.block.compress.Statement.{statement}
-use Rattle.sha1.proofs.block.compress.Tie as tie
+use Rattle.sha1_block.specs.Block as fips
+use Rattle.sha1_block.proofs.block.compress.Statement.{statement}
+use Rattle.sha1_block.proofs.block.compress.Tie as tie
 
 returns : tie.Need-returns
 unfolding fips.compressed fips.rounds

@@ -1,9 +1,9 @@
 -- Each quarter of the rounds has its function and its constant.
 use mathlib.Core.Path.{ap₂, _∙_}
 use borrow.Author.Needs.{needs}
-use Rattle.sha1.proofs.Schedule.{quarter-first, quarter-second, quarter-third, quarter-fourth, sum}
-use Rattle.sha1.proofs.block.f_and_k.Statement.{statement}
-use Rattle.sha1.proofs.block.f_and_k.Tie as tie
+use Rattle.sha1_block.proofs.Schedule.{quarter-first, quarter-second, quarter-third, quarter-fourth, sum}
+use Rattle.sha1_block.proofs.block.f_and_k.Statement.{statement}
+use Rattle.sha1_block.proofs.block.f_and_k.Tie as tie
 
 returns : tie.Need-returns
 returns c =

@@ -8,7 +8,7 @@ use native.Mathlib.Omega.{arith}
 use borrow.Author.Tests.{lt-ltb, le-ltb}
 use lib.ListN.{length, take, drop, getD, set, length-append}
 use lib.Seq.{take-suc-set, getD-take, getD-drop, take-all, take-append-le, getD-at}
-use Rattle.sha1.specs.Sha1.{quarter, word, mixed, scheduled, schedule}
+use Rattle.sha1_block.specs.Block.{quarter, word, mixed, scheduled, schedule}
 
 -- ---- the rounds
 

@@ -1,9 +1,9 @@
 -- The additions that wrap are one, modulo 2^32.
 use borrow.Author.Needs.{needs}
-use Rattle.sha1.specs.Sha1 as fips
-use Rattle.sha1.proofs.Schedule.{sum5}
-use Rattle.sha1.proofs.block.round.Statement.{statement}
-use Rattle.sha1.proofs.block.round.Tie as tie
+use Rattle.sha1_block.specs.Block as fips
+use Rattle.sha1_block.proofs.Schedule.{sum5}
+use Rattle.sha1_block.proofs.block.round.Statement.{statement}
+use Rattle.sha1_block.proofs.block.round.Tie as tie
 
 returns : tie.Need-returns
 unfolding fips.round
