@@ -1,11 +1,11 @@
--- What the private readers of an image answer. No public promise cites this file.
+-- What the readers of an image answer: the values and the bytes used, or fixed blanks where the bytes say none.
 use mathlib.Core.Bool.{true, false}
 use mathlib.Core.List.{List}
 use Rattle.octets.specs.Field.{Res, bad, got}
 use Rattle.streams.specs.declared.Slot.{Slot}
 use Rattle.streams.specs.Table.{freeSlot, empty}
-use Rattle.image.specs.declared.walk.SlotRead.{SlotRead}
-use Rattle.image.specs.declared.walk.RowsRead.{RowsRead}
+use Rattle.image_rows.specs.declared.walk.SlotRead.{SlotRead}
+use Rattle.image_rows.specs.declared.RowsRead.{RowsRead}
 
 abbrev pub slotRead : Res Slot → SlotRead
 slotRead bad = record { good = false; used = 0; slot = freeSlot }

@@ -1,7 +1,7 @@
 -- A free slot is all zero.
 use borrow.Author.Needs.{needs}
-use Rattle.image.proofs.walk.free_slot.Statement.{statement}
-use Rattle.image.proofs.walk.free_slot.Tie as tie
+use Rattle.image_rows.proofs.walk.free_slot.Statement.{statement}
+use Rattle.image_rows.proofs.walk.free_slot.Tie as tie
 
 returns : tie.Need-returns
 returns c = rw (c .before .none .ensures, c .none2 .ensures)

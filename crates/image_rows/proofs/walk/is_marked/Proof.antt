@@ -1,8 +1,8 @@
 -- The mark and the row number stand in the first three bytes.
 use borrow.Author.Needs.{needs}
-use Rattle.image.proofs.Reading.{unmarked-short}
-use Rattle.image.proofs.walk.is_marked.Statement.{statement}
-use Rattle.image.proofs.walk.is_marked.Tie as tie
+use Rattle.image_rows.proofs.Reading.{unmarked-short}
+use Rattle.image_rows.proofs.walk.is_marked.Statement.{statement}
+use Rattle.image_rows.proofs.walk.is_marked.Tie as tie
 
 returns : tie.Need-returns
 returns c =

@@ -1,7 +1,7 @@
 -- Where the bytes are no rows.
 use borrow.Author.Needs.{needs}
-use Rattle.image.proofs.walk.no_rows.Statement.{statement}
-use Rattle.image.proofs.walk.no_rows.Tie as tie
+use Rattle.image_rows.proofs.no_rows.Statement.{statement}
+use Rattle.image_rows.proofs.no_rows.Tie as tie
 
 returns : tie.Need-returns
 returns c = rw (c .new .ensures)

@@ -5,10 +5,10 @@ use native.Mathlib.Omega.{arith}
 use borrow.Author.Needs.{needs}
 use borrow.Author.Tests.{not-true, not-false}
 use lib.ListN.{length}
-use Rattle.image.specs.Steps.{slotRead}
-use Rattle.image.proofs.Reading.{slot-free, slot-start, slot-bad, slot-got, slot-room}
-use Rattle.image.proofs.walk.read_slot.Statement.{statement}
-use Rattle.image.proofs.walk.read_slot.Tie as tie
+use Rattle.image_rows.specs.Steps.{slotRead}
+use Rattle.image_rows.proofs.Reading.{slot-free, slot-start, slot-bad, slot-got, slot-room}
+use Rattle.image_rows.proofs.walk.read_slot.Statement.{statement}
+use Rattle.image_rows.proofs.walk.read_slot.Tie as tie
 
 short : (c : tie.Start) → length (c .args .d .now) < 18446744073709551616
 short c = search needs

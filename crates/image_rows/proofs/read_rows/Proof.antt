@@ -5,10 +5,10 @@ use native.Mathlib.Omega.{arith}
 use borrow.Author.Needs.{needs}
 use borrow.Author.Tests.{not-true, not-false}
 use lib.ListN.{length}
-use Rattle.image.specs.Steps.{rowsRead}
-use Rattle.image.proofs.Reading.{Walk, walk-start, walk-bad, walk-room, walk-more, walk-end}
-use Rattle.image.proofs.walk.read_rows.Statement.{statement}
-use Rattle.image.proofs.walk.read_rows.Tie as tie
+use Rattle.image_rows.specs.Steps.{rowsRead}
+use Rattle.image_rows.proofs.Reading.{Walk, walk-start, walk-bad, walk-room, walk-more, walk-end}
+use Rattle.image_rows.proofs.read_rows.Statement.{statement}
+use Rattle.image_rows.proofs.read_rows.Tie as tie
 
 abbrev Inv-loop : tie.InvT-loop
 Inv-loop d slots₀ at₀ i₀ slots at i = (length d < 18446744073709551616) × Walk d slots at i
