@@ -4,11 +4,10 @@ use mathlib.Core.Path.{sym, _∙_}
 use native.Mathlib.Omega.{arith}
 use borrow.Author.Needs.{needs}
 use borrow.Author.Tests.{le-leb, lt-leb, not-true, not-false}
-use Rattle.octets.specs.Words.{_and_}
 use Rattle.octets.proofs.Tests.{if-yes, if-no, and-next, and-not-left, no-true, no-false}
-use Rattle.groupcalls.specs.Calls.{sweptGroup}
-use Rattle.groupcalls.proofs.calls.swept.Statement.{statement}
-use Rattle.groupcalls.proofs.calls.swept.Tie as tie
+use Rattle.groupsweep.specs.Sweep.{sweptGroup}
+use Rattle.groupsweep.proofs.swept.Statement.{statement}
+use Rattle.groupsweep.proofs.swept.Tie as tie
 
 returns : tie.Need-returns
 unfolding sweptGroup
