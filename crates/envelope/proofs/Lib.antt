@@ -1,4 +1,2 @@
--- Laws of the shared fields, and what every public contract must show.
-pub mod Held
-pub mod Given
+-- What every public contract must show.
 pub mod Unique

@@ -7,10 +7,6 @@ use Rattle.envelope.proofs.address_text.Kinds as address-text-kinds
 use Rattle.envelope.proofs.address_text.Reads as address-text-reads
 use Rattle.envelope.proofs.stream_text.Kinds as stream-text-kinds
 use Rattle.envelope.proofs.stream_text.Reads as stream-text-reads
-use Rattle.envelope.proofs.header_text.Kinds as header-text-kinds
-use Rattle.envelope.proofs.header_text.Reads as header-text-reads
-use Rattle.envelope.proofs.with_header.Kinds as with-header-kinds
-use Rattle.envelope.proofs.with_header.Reads as with-header-reads
 use Rattle.envelope.proofs.blank.Kinds as blank-kinds
 use Rattle.envelope.proofs.blank.Reads as blank-reads
 use Rattle.envelope.proofs.is_call.Kinds as is-call-kinds
@@ -35,18 +31,6 @@ stream-text-one κs a x y v w p q = (p ∙ sym q, refl)
 
 pub stream-text-free : Free 1 stream-text-kinds.ps stream-text-reads.Pre
 stream-text-free κs a = tt
-
-pub header-text-one : One 2 header-text-kinds.ps header-text-kinds.r header-text-reads.Post
-header-text-one κs a x y v w p q = (p ∙ sym q, refl)
-
-pub header-text-free : Free 2 header-text-kinds.ps header-text-reads.Pre
-header-text-free κs a = tt
-
-pub with-header-one : One 0 with-header-kinds.ps with-header-kinds.r with-header-reads.Post
-with-header-one κs a x y v w p q = (p ∙ sym q, refl)
-
-pub with-header-free : Free 0 with-header-kinds.ps with-header-reads.Pre
-with-header-free κs a = tt
 
 pub blank-one : One 0 blank-kinds.ps blank-kinds.r blank-reads.Post
 blank-one κs a x y v w p q = (p ∙ sym q, refl)

@@ -1,13 +1,15 @@
 -- Document 01, "Names and fields": the rules of the fields that a line and a datagram share.
-use Prim.Native.Nat.{ℕ, _^_}
-use mathlib.Core.Bool.{Bool, true}
+use Prim.Native.Nat.{ℕ}
+use mathlib.Core.Bool.{Bool}
 use mathlib.Core.List.{List}
 use lib.ListN.{take}
-use Rattle.octets.specs.Words.{if_then_else_, _and_, _<?_, _≤?_, between}
+use Rattle.octets.specs.Words.{_and_, _≤?_}
 use Rattle.callsigns.specs.Callsign.{callsign}
 use Rattle.callsigns.specs.Destination.{destination}
 use Rattle.names.specs.Texts.{streamId}
 use Rattle.headers.specs.Rule.{headers}
+pub use Rattle.field_rules.specs.Rules.{given}
+unfoldable pub use Rattle.field_rules.specs.Rules.{idIn, ttlIn, fragmentIn}
 use Rattle.envelope.specs.declared.CallText.{CallText}
 use Rattle.envelope.specs.declared.AddressText.{AddressText}
 use Rattle.envelope.specs.declared.StreamText.{StreamText}
@@ -32,22 +34,6 @@ addressIn t = t .len ≤? 45 and destination (addressOf t)
 
 unfoldable pub streamIn : StreamText → Bool
 streamIn t = t .len ≤? 255 and streamId (streamOf t)
-
--- an id is 7 hexadecimal digits: a number of 28 bits
-unfoldable pub idIn : ℕ → Bool
-idIn v = v <? 2 ^ 28
-
--- `ttl` 1 to 2147483647
-unfoldable pub ttlIn : ℕ → Bool
-ttlIn v = between 1 2147483647 v
-
--- a master id, and `frag=N/M`: M 2 to 65535, 1 ≤ N ≤ M
-unfoldable pub fragmentIn : ℕ → ℕ → ℕ → Bool
-fragmentIn mid n m = idIn mid and (between 2 65535 m and between 1 m n)
-
--- where the flag is set, the rule holds
-abbrev pub given : Bool → Bool → Bool
-given flag rule = if flag then rule else true
 
 -- the fields are those of a valid message (`s`, `sn` and `gt` may be any number of their range)
 unfoldable pub envelope : Envelope → Bool

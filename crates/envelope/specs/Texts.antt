@@ -1,29 +1,16 @@
 -- Texts held in arrays: the text, then zeros, beside its length. A text too long for its array is held as none.
-use Prim.Native.Nat.{ℕ, _+_}
+use Prim.Native.Nat.{ℕ}
 use mathlib.Core.Bool.{false}
 use mathlib.Core.List.{List, []}
-use lib.ListN.{length, replicate, set}
+use lib.ListN.{length, replicate}
 use lib.IntN.{pos}
-use Rattle.octets.specs.Words.{if_then_else_, _≤?_}
-use Rattle.octets.specs.Bytes.{front}
-use Rattle.headers.specs.declared.Header.{Header}
 use Rattle.headers.specs.declared.Headers.{Headers}
+pub use Rattle.held_texts.specs.Texts.{zeros, headerText}
+unfoldable pub use Rattle.held_texts.specs.Texts.{held, padded, withHeader}
 use Rattle.envelope.specs.declared.CallText.{CallText}
 use Rattle.envelope.specs.declared.AddressText.{AddressText}
 use Rattle.envelope.specs.declared.StreamText.{StreamText}
 use Rattle.envelope.specs.declared.Envelope.{Envelope}
-
--- what of a text an array of n bytes can hold: all of it, or nothing
-unfoldable pub held : ℕ → List ℕ → List ℕ
-held n s = if length s ≤? n then s else []
-
--- n zeros
-abbrev pub zeros : ℕ → List ℕ
-zeros n = replicate n 0
-
--- the array of n bytes that begins with the text
-unfoldable pub padded : ℕ → List ℕ → List ℕ
-padded n s = front s (zeros n)
 
 abbrev pub callText : List ℕ → CallText
 callText s = record { len = length (held 12 s); bytes = padded 12 (held 12 s) }
@@ -33,18 +20,6 @@ addressText s = record { len = length (held 45 s); bytes = padded 45 (held 45 s)
 
 abbrev pub streamText : List ℕ → StreamText
 streamText s = record { len = length (held 255 s); bytes = padded 255 (held 255 s) }
-
-abbrev pub headerText : List ℕ → List ℕ → Header
-headerText k v = record {
-  key = padded 32 (held 32 k);
-  «key_len» = length (held 32 k);
-  value = padded 128 (held 128 v);
-  «value_len» = length (held 128 v);
-}
-
--- the headers, and one more behind them; of eight there are no more
-unfoldable pub withHeader : Headers → Header → Headers
-withHeader h x = if 8 ≤? h .count then h else record { items = set (h .items) (h .count) x; count = h .count + 1 }
 
 -- no message: every number 0, every flag clear, every text empty
 abbrev pub noHeaders : Headers

@@ -2,12 +2,13 @@
 // A message is its fields up to their lengths and flags: what lies past a length or behind a clear flag is no part of it.
 use headers::Header;
 use headers::Headers;
+pub use held_texts::header_text;
+pub use held_texts::with_header;
 ghost use mathlib.Core.Path.{_≡_};
-ghost use Rattle.envelope.specs.Texts.{callText, addressText, streamText, headerText, withHeader, blankEnvelope};
+ghost use Rattle.envelope.specs.Texts.{callText, addressText, streamText, blankEnvelope};
 ghost use Rattle.envelope.specs.Rules.{callIn, envelope};
 
 mod rules;
-mod texts;
 
 // A callsign: the first `len` bytes.
 pub struct CallText {
@@ -54,7 +55,7 @@ pub fn call_text(s: &[u8]) -> CallText
     ensures { λ r. ⌜ r ≡ callText (now (s .entry)) ⌝ }
 {
     let mut bytes = [0u8; 12];
-    let len = texts::fill(s, &mut bytes);
+    let len = held_texts::fill(s, &mut bytes);
     CallText { len, bytes }
 }
 
@@ -62,7 +63,7 @@ pub fn address_text(s: &[u8]) -> AddressText
     ensures { λ r. ⌜ r ≡ addressText (now (s .entry)) ⌝ }
 {
     let mut bytes = [0u8; 45];
-    let len = texts::fill(s, &mut bytes);
+    let len = held_texts::fill(s, &mut bytes);
     AddressText { len, bytes }
 }
 
@@ -70,39 +71,8 @@ pub fn stream_text(s: &[u8]) -> StreamText
     ensures { λ r. ⌜ r ≡ streamText (now (s .entry)) ⌝ }
 {
     let mut bytes = [0u8; 255];
-    let len = texts::fill(s, &mut bytes);
+    let len = held_texts::fill(s, &mut bytes);
     StreamText { len, bytes }
-}
-
-pub fn header_text(key: &[u8], value: &[u8]) -> Header
-    ensures { λ r. ⌜ r ≡ headerText (now (key .entry)) (now (value .entry)) ⌝ }
-{
-    let mut k = [0u8; 32];
-    let mut v = [0u8; 128];
-    let key_len = texts::fill(key, &mut k);
-    let value_len = texts::fill(value, &mut v);
-    Header {
-        key: k,
-        key_len,
-        value: v,
-        value_len,
-    }
-}
-
-// One header more; of eight there are no more.
-pub fn with_header(h: Headers, x: Header) -> Headers
-    ensures { λ r. ⌜ r ≡ withHeader h x ⌝ }
-{
-    let n = h.count;
-    if 8 <= n {
-        return h;
-    }
-    let mut items = h.items;
-    items[n] = x;
-    Headers {
-        items,
-        count: n + 1,
-    }
 }
 
 // The fields of no message: what a reader answers beside a refusal.
@@ -170,16 +140,16 @@ pub fn is_valid(e: Envelope) -> bool
     let sid = e.sid;
     let headers = e.headers;
     let dst = e.dst;
-    if !rules::id_rule(e.id) {
+    if !field_rules::id_rule(e.id) {
         return false;
     }
-    if !rules::ttl_rule(e.has_ttl, e.ttl) {
+    if !field_rules::ttl_rule(e.has_ttl, e.ttl) {
         return false;
     }
     if !rules::src_rule(e.has_src, src) {
         return false;
     }
-    if !rules::fragment_rule(e.has_fragment, e.mid, e.index, e.total) {
+    if !field_rules::fragment_rule(e.has_fragment, e.mid, e.index, e.total) {
         return false;
     }
     if !rules::stream_rule(e.has_stream, sid) {

@@ -17,8 +17,8 @@ use Rattle.groups.specs.declared.Groups.{Groups}
 use Rattle.groups.specs.declared.Found.{Found}
 use Rattle.groups.specs.Groups.{place, storeSize, freeGroup, isFree, hasKey, joinedLength, keepsPieces, keepsGroup, keepsGroups, distinct, first, pastGroup, groupAt, withGroup}
 use Rattle.groupcalls.specs.declared.Fragment.{Fragment}
-use Rattle.groupcalls.specs.Answer.{swept, collected, Outcome, refuse}
-use Rattle.groupcalls.specs.Calls.{gate, inRange, addTo, addIn, addNew, addBy, add, collectBy, collect, sweptGroup}
+use Rattle.groupcalls.specs.Answer.{collected, Outcome, refuse}
+use Rattle.groupcalls.specs.Calls.{gate, inRange, addTo, addIn, addNew, addBy, add, collectBy, collect}
 
 -- ---- a fragment in its ranges
 
@@ -141,14 +141,3 @@ collect-named t size m n room e = ap (λ (x : Named). collect t size x room) e
 pub freed-at : (t : Groups) (g n : ℕ) (u : Groups) (x : Group) → n ≡ joinedLength (groupAt t g) → u ≡ withGroup t g x → x ≡ freeGroup
     → _≡_ {A = Outcome} (record { answer = collected g n; after = u }) (record { answer = collected g (joinedLength (groupAt t g)); after = withGroup t g freeGroup })
 freed-at t g n u x e p q = let z = p ∙ ap (withGroup t g) q in λ i. record { answer = collected g (e i); after = z i }
-
--- ---- sweep: each group alone
-pub swept-all : (l : List Group) (time : ℕ) → length l ≡ 4 → (a b c d : Group)
-    → a ≡ sweptGroup time (getD l 0 pastGroup) → b ≡ sweptGroup time (getD l 1 pastGroup) → c ≡ sweptGroup time (getD l 2 pastGroup) → d ≡ sweptGroup time (getD l 3 pastGroup)
-    → _≡_ {A = Outcome} (record { answer = swept; after = record { items = set (set (set (set l 0 a) 1 b) 2 c) 3 d } }) (record { answer = swept; after = record { items = map (sweptGroup time) l } })
-swept-all [] time h a b c d p q r s = absurd (omega arith)
-swept-all (w ∷ []) time h a b c d p q r s = absurd (omega arith)
-swept-all (w ∷ x ∷ []) time h a b c d p q r s = absurd (omega arith)
-swept-all (w ∷ x ∷ y ∷ []) time h a b c d p q r s = absurd (omega arith)
-swept-all (w ∷ x ∷ y ∷ z ∷ []) time h a b c d p q r s = λ i. record { answer = swept; after = record { items = p i ∷ q i ∷ r i ∷ s i ∷ [] } }
-swept-all (w ∷ x ∷ y ∷ z ∷ v ∷ l) time h a b c d p q r s = absurd (omega arith)

@@ -1,7 +1,6 @@
 -- Document 01, "Fragments": the calls on the groups, with the refusals in the order of the paper's table, 40 first, then 23, and 5 last.
 use Prim.Native.Nat.{ℕ, _-_}
 use mathlib.Core.Bool.{Bool, true}
-use mathlib.Core.List.{map}
 use lib.ListN.{getD, set, replicate}
 use Rattle.octets.specs.Words.{if_then_else_, _and_, no, between, _<?_, _≤?_, _=?_}
 use Rattle.refusals.specs.Numbers.{stateBroken, storeLength, fragmentMalformed, otherTotal, fragmentHeld, noFreeGroup, notComplete, bufferTooShort}
@@ -11,6 +10,8 @@ use Rattle.groups.specs.declared.Group.{Group}
 use Rattle.groups.specs.declared.Groups.{Groups}
 use Rattle.groups.specs.declared.Found.{Found}
 use Rattle.groups.specs.Groups.{place, storeSize, noPiece, freeGroup, isFree, hasKey, complete, joinedLength, keepsGroups, first, groupAt, withGroup}
+use Rattle.groupsweep.specs.Sweep.{sweptAll, standsComplete}
+unfoldable pub use Rattle.groupsweep.specs.Sweep.{sweptGroup}
 use Rattle.groupcalls.specs.declared.Fragment.{Fragment}
 use Rattle.groupcalls.specs.Answer.{added, swept, collected, Outcome, refuse, Stand, isComplete, isIncomplete, unseen}
 
@@ -87,17 +88,13 @@ collect t size named room =
 
 -- ---- sweep
 
--- an incomplete group whose first fragment came 604,800 s ago or more is freed (by an earlier clock the difference, and so the age, is 0)
-unfoldable pub sweptGroup : ℕ → Group → Group
-sweptGroup time x = if x .used and no (complete x) and 604800 ≤? time - x .began then freeGroup else x
-
 unfoldable pub sweep : Groups → ℕ → Outcome
-sweep t time = if no (keepsGroups t) then refuse stateBroken t else record { answer = swept; after = record { items = map (sweptGroup time) (t .items) } }
+sweep t time = if no (keepsGroups t) then refuse stateBroken t else record { answer = swept; after = sweptAll t time }
 
 -- ---- what a host sees: whether a group is complete
 
 unfoldable pub standing : Groups → ℕ → Stand
 standing t g =
     if no (keepsGroups t) then unseen stateBroken
-    else if g <? 4 and groupAt t g .used and complete (groupAt t g) then isComplete
+    else if standsComplete t g then isComplete
     else isIncomplete

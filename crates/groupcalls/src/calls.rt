@@ -1,10 +1,10 @@
-// The steps of the calls: the tests that they share, a fragment more in a group, a group freed, a group swept.
+// The steps of the calls: the tests that they share, a fragment more in a group, a group freed.
 ghost use mathlib.Core.Path.{_≡_};
 ghost use mathlib.Core.Bool.{true};
-ghost use Prim.Native.Nat.{_-_, _<_};
+ghost use Prim.Native.Nat.{_<_};
 ghost use Rattle.groups.specs.Groups.{withGroup};
 ghost use Rattle.groupcalls.specs.Answer.{says, refuse};
-ghost use Rattle.groupcalls.specs.Calls.{gate, inRange, addTo, addAt, addNew, collectAt, sweptGroup};
+ghost use Rattle.groupcalls.specs.Calls.{gate, inRange, addTo, addAt, addNew, collectAt};
 use crate::Answer;
 use crate::Fragment;
 use crate::Served;
@@ -143,29 +143,4 @@ pub(crate) fn collect_at(t: Groups, g: usize, room: usize) -> Served
         answer: Answer::Collected(g, n),
         groups: after,
     }
-}
-
-// An earlier clock means age 0.
-fn age(time: u32, began: u32) -> u32
-    ensures { λ r. ⌜ r ≡ time - began ⌝ }
-{
-    if time < began {
-        return 0;
-    }
-    time - began
-}
-
-pub(crate) fn swept(x: Group, time: u32) -> Group
-    ensures { λ r. ⌜ r ≡ sweptGroup time x ⌝ }
-{
-    if !x.used {
-        return x;
-    }
-    if groups::is_complete(x) {
-        return x;
-    }
-    if age(time, x.began) < 604800 {
-        return x;
-    }
-    groups::free_group()
 }

@@ -94,15 +94,7 @@ pub fn sweep_groups(groups: Groups, time: u32) -> Served
     if !groups.keep_rules() {
         return calls::refused(refusals::STATE_BROKEN, groups);
     }
-    let mut after = groups;
-    let a = groups.items[0];
-    after.items[0] = calls::swept(a, time);
-    let b = groups.items[1];
-    after.items[1] = calls::swept(b, time);
-    let c = groups.items[2];
-    after.items[2] = calls::swept(c, time);
-    let d = groups.items[3];
-    after.items[3] = calls::swept(d, time);
+    let after = groupsweep::sweep_all(groups, time);
     Served {
         answer: Answer::Swept,
         groups: after,
@@ -116,14 +108,7 @@ pub fn standing_of(groups: Groups, number: usize) -> Standing
     if !groups.keep_rules() {
         return Standing::Refused(refusals::STATE_BROKEN);
     }
-    if number >= 4 {
-        return Standing::Incomplete;
-    }
-    let x = groups.items[number];
-    if !x.used {
-        return Standing::Incomplete;
-    }
-    if groups::is_complete(x) {
+    if groupsweep::stands_complete(groups, number) {
         return Standing::Complete;
     }
     Standing::Incomplete

@@ -16,12 +16,9 @@ use Rattle.streams.specs.declared.Table.{Table}
 use Rattle.streams.specs.Table.{freeSlot, keepsTable, count}
 use Rattle.records.specs.Record.{body}
 use Rattle.image.specs.Answer.{written, SaveOutcome, unsaved}
+pub use Rattle.image_rows.specs.Rows.{rowMark, opened, slotFrom, slotsFrom}
 
 -- ---- the image
-
--- mark 53 54 and the row number
-abbrev pub rowMark : ℕ → List ℕ
-rowMark i = 0x53 ∷ 0x54 ∷ i ∷ []
 
 -- mark 53 45 and the row count
 abbrev pub endRecord : ℕ → List ℕ
@@ -45,19 +42,6 @@ unfoldable pub imageOf : Table → List ℕ
 imageOf t = recordsFrom 0 (t .slots) ++ endRecord (openRows (t .slots))
 
 -- ---- what an image says
-
--- a record's key and row, in an open row
-abbrev pub opened : Key × Row → Slot
-opened x = record { used = true; key = x .0; row = x .1 }
-
--- row i: the record where the mark with its number stands, else free
-abbrev pub slotFrom : ℕ → List ℕ → Res Slot
-slotFrom i s = if same (take 3 s) (rowMark i) then bind (body .parse (drop 3 s)) (λ x n. got (opened x) (3 + n)) else got freeSlot 0
-
--- k rows in row order, from i on
-abbrev pub slotsFrom : ℕ → ℕ → List ℕ → Res (List Slot)
-slotsFrom zero i s = got [] 0
-slotsFrom (suc k) i s = bind (slotFrom i s) (λ x n. bind (slotsFrom k (i + 1) (drop n s)) (λ rest m. got (x ∷ rest) (n + m)))
 
 -- nothing may stand behind the rows but their end record, and the table must keep the rules
 abbrev pub ended : List ℕ → Res (List Slot) → Option Table

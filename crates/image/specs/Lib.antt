@@ -1,4 +1,3 @@
 -- Document 01, "The saved table".
 pub mod Answer
 pub mod Image
-pub mod Steps

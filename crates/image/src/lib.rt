@@ -47,7 +47,7 @@ pub fn load(t: Table, image: &[u8]) -> Loaded
     let Count::Rows(_open) = present else {
         return walk::refused(refusals::STATE_BROKEN, t);
     };
-    let r = walk::read_rows(image);
+    let r = image_rows::read_rows(image);
     if !r.good {
         return walk::refused(refusals::NO_SAVED_IMAGE, t);
     }

@@ -8,7 +8,8 @@ use lib.Pow.{field, mod-mod-pow}
 use lib.ListN.{length, length-append, length-replicate}
 use lib.Seq.{take-all}
 use Rattle.sha1.specs.declared.Sha1.{Sha1}
-use Rattle.sha1.specs.Sha1.{initial, zeros, big64, padding, chain, sha1}
+use Rattle.sha1_block.specs.Block.{chain}
+use Rattle.sha1.specs.Sha1.{initial, zeros, big64, padding, sha1}
 use Rattle.sha1.specs.Machine.{fresh, fedAll, fedPieces, joined, finished}
 use Rattle.sha1.proofs.Feed.{parts, whole, counted}
 

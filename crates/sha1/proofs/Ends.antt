@@ -5,7 +5,7 @@ use Prim.Native.Nat.{ℕ, zero, suc, _+_, _-_, _*_, _/_, _%_, _^_, _≤_, _<_}
 use native.Mathlib.Omega.{arith}
 use lib.ListN.{length, take, drop, replicate, length-take, length-drop, length-replicate, take-append-drop, replicate-append-replicate}
 use lib.Seq.{take-all}
-use Rattle.sha1.specs.declared.Hash.{Hash}
+use Rattle.sha1_block.specs.declared.Hash.{Hash}
 use Rattle.sha1.specs.declared.Sha1.{Sha1}
 use Rattle.sha1.specs.Sha1.{zeros, big64, padding}
 use Rattle.sha1.specs.Machine.{fedAll, finished}

@@ -10,9 +10,9 @@ use lib.Seq.{take-add}
 use Rattle.octets.specs.Words.{if_then_else_, _=?_}
 use Rattle.octets.specs.Bytes.{placed}
 use Rattle.octets.proofs.Lists.{placed-in, placed-none, placed-next}
-use Rattle.sha1.specs.declared.Hash.{Hash}
+use Rattle.sha1_block.specs.declared.Hash.{Hash}
 use Rattle.sha1.specs.declared.Sha1.{Sha1}
-use Rattle.sha1.specs.Sha1.{block, compressed, chain}
+use Rattle.sha1_block.specs.Block.{block, compressed, chain}
 use Rattle.sha1.specs.Machine.{fed, fedAll}
 
 -- feeding two parts, one after the other, is feeding the whole
@@ -89,19 +89,33 @@ full st m size small z l =
     let count = ap (λ n. (st .total + n) % 2 ^ 64) l in
     within st m size small (omega arith) ∙ (λ i. ended (st .h) (sum i) (filled i) (count i))
 
+-- a state whose block is b, after m bytes more than `total`
+abbrev at-block : Hash → List ℕ → ℕ → ℕ → Sha1
+at-block h b total m = record { h = h; block = b; total = (total + m) % 2 ^ 64 }
+
+-- one block more than m bytes
+next-block : (st : Sha1) (s : List ℕ) (h : Hash) (b : List ℕ) (m m′ : ℕ) → st .total % 64 ≡ 0 → m % 64 ≡ 0 → m′ ≡ m + 64 → m′ ≤ length s → length b ≡ 64
+    → fedAll st (take m s) ≡ at-block h b (st .total) m
+    → fedAll st (take m′ s) ≡ at-block (compressed h (take 64 (drop m s))) (take 64 (drop m s)) (st .total) m′
+next-block st s h b m m′ z d e k l p =
+    let c = take 64 (drop m s) in
+    let w : length c ≡ 64 = simp (length-take, length-drop) (omega arith) in
+    ap (λ x. fedAll st (take x s)) e
+    ∙ ap (fedAll st) (take-add m 64 s)
+    ∙ parts st (take m s) c
+    ∙ ap (λ q. fedAll q c) p
+    ∙ full (at-block h b (st .total) m) c l (below (st .total + m)) (omega arith) w
+    ∙ ap (λ t. record { h = compressed h c; block = c; total = t }) (carry (st .total) m 64 ∙ ap (λ x. (st .total + x) % 2 ^ 64) (sym e))
+
 module _ (st : Sha1) (s : List ℕ) (size : length (st .block) ≡ 64) (small : st .total < 2 ^ 64) (z : st .total % 64 ≡ 0) where
   -- the state after n blocks and one
   pub whole : (n : ℕ) → 64 * suc n ≤ length s
-      → fedAll st (take (64 * suc n) s) ≡ record { h = chain (st .h) s (suc n); block = block s n; total = (st .total + 64 * suc n) % 2 ^ 64 }
+      → fedAll st (take (64 * suc n) s) ≡ at-block (chain (st .h) s (suc n)) (block s n) (st .total) (64 * suc n)
   unfolding chain
   whole zero k = full st (take 64 s) size small z (simp length-take (omega arith))
   whole (suc n) k =
-      let before : Sha1 = record { h = chain (st .h) s (suc n); block = block s n; total = (st .total + 64 * suc n) % 2 ^ 64 } in
-      let e : 64 * suc (suc n) ≡ 64 * suc n + 64 = omega arith in
-      let size′ : length (block s n) ≡ 64 = simp (length-take, length-drop) (omega arith) in
-      let count : ((st .total + 64 * suc n) % 2 ^ 64 + 64) % 2 ^ 64 ≡ (st .total + (64 * suc n + 64)) % 2 ^ 64 = carry (st .total) (64 * suc n) 64 in
-      rw (e, take-add (64 * suc n) 64 s, parts st (take (64 * suc n) s) (block s (suc n)), whole n (omega arith))
-      (full before (block s (suc n)) size′ (omega arith) (omega arith) (simp (length-take, length-drop) (omega arith)) ∙ rw count)
+      let b : length (block s n) ≡ 64 = simp (length-take, length-drop) (omega arith) in
+      next-block st s (chain (st .h) s (suc n)) (block s n) (64 * suc n) (64 * suc (suc n)) z (omega arith) (omega arith) k b (whole n (omega arith))
 
 -- the count
 pub counted : (st : Sha1) (s : List ℕ) → st .total < 2 ^ 64 → fedAll st s .total ≡ (st .total + length s) % 2 ^ 64

@@ -17,11 +17,12 @@ use Rattle.text.specs.Digits.{digit, digits}
 use Rattle.text.specs.Hex.{hexDigits, hexValue}
 use Rattle.text.proofs.Numerals.{length-digits}
 use Rattle.text.proofs.Hexes.{hex-back}
-use Rattle.sha1.specs.declared.Hash.{Hash}
+use Rattle.sha1_block.specs.declared.Hash.{Hash}
 use Rattle.sha1.specs.declared.Sha1.{Sha1}
 use Rattle.sha1.specs.declared.Salt.{Salt}
 use Rattle.sha1.specs.declared.IdAnswer.the-variants.{Is, Refused}
-use Rattle.sha1.specs.Sha1.{initial, plus, compressed, chain, sha1}
+use Rattle.sha1_block.specs.Block.{plus, compressed, chain}
+use Rattle.sha1.specs.Sha1.{initial, sha1}
 use Rattle.sha1.specs.Machine.{fresh, fedAll, fedPieces, joined, finished}
 use Rattle.sha1.specs.Id.{saltBytes, firstSeven, idNumber, messageId}
 use Rattle.sha1.proofs.Feed.{parts, over}

@@ -7,7 +7,7 @@ use Rattle.octets.specs.Words.{if_then_else_, _<?_}
 use Rattle.octets.specs.Numbers.{littleBytes, twos}
 use Rattle.refusals.specs.Numbers.{payloadTooLong, longestPayload}
 use Rattle.text.specs.Hex.{hexDigits, hexValue}
-use Rattle.sha1.specs.declared.Hash.{Hash}
+use Rattle.sha1_block.specs.declared.Hash.{Hash}
 use Rattle.sha1.specs.declared.Salt.{Salt}
 use Rattle.sha1.specs.declared.IdAnswer.{IdAnswer}
 use Rattle.sha1.specs.declared.IdAnswer.the-variants.{Is, Refused}

@@ -4,9 +4,10 @@ use mathlib.Core.List.{List, [], _∷_, _++_}
 use Prim.Native.Nat.{ℕ, _+_, _%_, _^_}
 use lib.ListN.{set, replicate}
 use Rattle.octets.specs.Words.{if_then_else_, _=?_}
-use Rattle.sha1.specs.declared.Hash.{Hash}
+use Rattle.sha1_block.specs.declared.Hash.{Hash}
 use Rattle.sha1.specs.declared.Sha1.{Sha1}
-use Rattle.sha1.specs.Sha1.{initial, compressed, padding}
+use Rattle.sha1_block.specs.Block.{compressed}
+use Rattle.sha1.specs.Sha1.{initial, padding}
 
 -- nothing was fed
 abbrev pub fresh : Sha1

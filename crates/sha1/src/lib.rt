@@ -3,17 +3,9 @@ ghost use mathlib.Core.Path.{_≡_};
 ghost use Rattle.sha1.specs.Machine.{fresh, fed, fedAll, finished};
 ghost use Rattle.sha1.specs.Id.{saltBytes, idNumber, messageId};
 
-mod block;
 mod pieces;
 
-// The five words of a hash value.
-pub struct Hash {
-    pub a: u32,
-    pub b: u32,
-    pub c: u32,
-    pub d: u32,
-    pub e: u32,
-}
+use sha1_block::Hash;
 
 // A hash that is being fed. Every value is a state: the bytes of `block` that wait are the first `total % 64`.
 pub struct Sha1 {

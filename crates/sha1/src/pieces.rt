@@ -5,9 +5,8 @@ ghost use Prim.Native.Nat.{_+_, _-_, _*_, _/_, _%_, _<_, _≤_};
 ghost use lib.ListN.{length, take, replicate};
 ghost use Rattle.sha1.specs.Sha1.{big64};
 ghost use Rattle.sha1.specs.Machine.{fedAll};
-use super::Hash;
 use super::Sha1;
-use super::block;
+use sha1_block::Hash;
 
 // Bytes that end at the waiting block's end, or before it.
 pub(crate) fn put(st: Sha1, s: &[u8]) -> Sha1
@@ -18,7 +17,7 @@ pub(crate) fn put(st: Sha1, s: &[u8]) -> Sha1
     let h = st.h;
     let mut filled = st.block;
     octets::copy_at(s, &mut filled, at);
-    let next = block::taken(h, &filled, at + s.len());
+    let next = sha1_block::taken(h, &filled, at + s.len());
     let total = std::num::wrapping_add_u64(st.total, s.len() as u64);
     Sha1 {
         h: next,
@@ -36,7 +35,7 @@ pub(crate) fn blocks(st: Sha1, s: &[u8]) -> Sha1
     if end == 0 {
         return st;
     }
-    let h = block::chain(st.h, s);
+    let h = sha1_block::chain(st.h, s);
     let last = end - 64;
     let mut filled = st.block;
     octets::copy_at(&s[last..end], &mut filled, 0);

@@ -4,7 +4,6 @@ use borrow.Author.Needs.{needs}
 use borrow.Author.Tests.{not-true, not-false}
 use Rattle.octets.proofs.Tests.{and-next, and-not-left}
 use Rattle.envelope.specs.Rules.{envelope}
-use Rattle.envelope.proofs.Given.{first}
 use Rattle.envelope.proofs.is_valid.Statement.{statement}
 use Rattle.envelope.proofs.is_valid.Tie as tie
 

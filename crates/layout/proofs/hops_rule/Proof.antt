@@ -1,6 +1,6 @@
 -- Where the flag is set, hops.
 use borrow.Author.Needs.{needs}
-use Rattle.envelope.proofs.Given.{absent, present}
+use Rattle.field_rules.proofs.Given.{absent, present}
 use Rattle.layout.specs.Rules.{hopsIn}
 use Rattle.layout.proofs.hops_rule.Statement.{statement}
 use Rattle.layout.proofs.hops_rule.Tie as tie

@@ -1,7 +1,7 @@
 -- Where the flag is set, a callsign.
 use borrow.Author.Needs.{needs}
 use Rattle.envelope.specs.Rules.{callIn}
-use Rattle.envelope.proofs.Given.{absent, present}
+use Rattle.field_rules.proofs.Given.{absent, present}
 use Rattle.layout.proofs.link_rule.Statement.{statement}
 use Rattle.layout.proofs.link_rule.Tie as tie
 

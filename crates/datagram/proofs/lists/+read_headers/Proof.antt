@@ -14,7 +14,7 @@ use Rattle.datagram.proofs.lists.read_headers.Reads as read-headers
 use Rattle.datagram.proofs.lists.read_headers.Kinds as read-headers-kinds
 use Rattle.datagram.proofs.lists.+read_headers.Lts-read_headers as read-headers-lts
 use Rattle.datagram.proofs.texts.read_header.Reads as read-header-reads
-use Rattle.envelope.proofs.with_header.Reads as with-header-reads
+use Rattle.held_texts.proofs.with_header.Reads as with-header-reads
 use Rattle.datagram.proofs.lists.+read_headers.{statement}
 use Rattle.datagram.proofs.lists.+read_headers.Tie.{close}
 

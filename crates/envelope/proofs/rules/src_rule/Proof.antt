@@ -2,7 +2,7 @@
 use borrow.Author.Needs.{needs}
 use Rattle.callsigns.specs.Callsign.{callsign}
 use Rattle.envelope.specs.Rules.{callIn}
-use Rattle.envelope.proofs.Given.{absent, present}
+use Rattle.field_rules.proofs.Given.{absent, present}
 use Rattle.envelope.proofs.rules.src_rule.Statement.{statement}
 use Rattle.envelope.proofs.rules.src_rule.Tie as tie
 

@@ -8,7 +8,7 @@ use Rattle.octets.proofs.Tests.{and-next, and-not-left}
 use Rattle.names.specs.Texts.{streamId}
 use Rattle.headers.proofs.Cuts.{part-front}
 use Rattle.envelope.specs.Rules.{streamIn}
-use Rattle.envelope.proofs.Given.{absent, present}
+use Rattle.field_rules.proofs.Given.{absent, present}
 use Rattle.envelope.proofs.rules.stream_rule.Statement.{statement}
 use Rattle.envelope.proofs.rules.stream_rule.Tie as tie
 

@@ -1,0 +1,3 @@
+-- The sweep, and what the public functions leave.
+pub mod Each
+pub mod Unique

@@ -1,0 +1,2 @@
+-- Document 01, "Fragments": the sweep.
+pub mod Sweep

@@ -1,0 +1,2 @@
+-- Texts held in arrays.
+pub mod Texts
