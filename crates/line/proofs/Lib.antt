@@ -1,7 +1,6 @@
 -- Laws of the line, worked lines, and what every public contract must show.
 pub mod Texts
 pub mod Choices
-pub mod Frames
 pub mod Groups
 pub mod Refusals
 pub mod Examples

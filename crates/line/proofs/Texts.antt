@@ -1,29 +1,14 @@
--- The bytes that a line may have, and its check.
-use Prim.Native.Nat.{ℕ, _-_, _≤_, _<_}
+-- The check of a line.
+use Prim.Native.Nat.{ℕ, _-_}
 use mathlib.Core.Path.{_≡_, ap, sym, _∙_}
 use mathlib.Core.Bool.{Bool, true, false}
 use mathlib.Core.List.{List}
 use lib.ListN.{length, take, drop}
-use borrow.Author.Tests.{le-leb, lt-leb, eq-eqb, ne-eqb}
-use Rattle.octets.proofs.Tests.{if-yes, if-no, and-next, and-both, and-not-left, no-true, no-false}
+use borrow.Author.Tests.{eq-eqb, ne-eqb}
+use Rattle.octets.proofs.Tests.{if-yes, if-no}
 use Rattle.headers.proofs.Cuts.{part-front}
 use Rattle.crc16.specs.Crc.{crc16}
-use Rattle.line.specs.Reading.{plain}
 use Rattle.line.specs.Steps.{rightChk}
-
-pub not-low : (x : ℕ) → x < 0x20 → plain x ≡ false
-unfolding plain
-not-low x h = and-not-left _ _ (lt-leb 0x20 x h)
-
-pub not-del : (x : ℕ) → 0x20 ≤ x → x ≡ 0x7F → plain x ≡ false
-unfolding plain
-not-del x h e = and-next _ _ (le-leb 0x20 x h) ∙ no-true _ (eq-eqb x 0x7F e)
-
-pub is-plain : (x : ℕ) → 0x20 ≤ x → (x ≡ 0x7F → ⊥) → plain x ≡ true
-unfolding plain
-is-plain x h e = and-both _ _ (le-leb 0x20 x h) (no-false _ (ne-eqb x 0x7F e))
-
--- ---- the check
 
 module _ (s : List ℕ) (has : Bool) (chk : ℕ) where
   pub right-none : has ≡ false → true ≡ rightChk s has chk

@@ -1,56 +1,28 @@
 -- Document 01, "The ihave line": what reading a line finds. The line is split into tokens, each key is looked up, and the rules are tests.
 use Prim.Native.Nat.{ℕ, zero, suc, _-_}
 use mathlib.Core.Bool.{Bool, true}
-use mathlib.Core.List.{List, [], _∷_}
+use mathlib.Core.List.{List}
 use lib.ListN.{length, take}
-use Rattle.octets.specs.Words.{if_then_else_, _and_, no, _<?_, _≤?_, _=?_, every}
-use Rattle.octets.specs.Bytes.{same}
+use Rattle.octets.specs.Words.{if_then_else_, _and_, no, _<?_, _=?_}
 use Rattle.refusals.specs.Numbers.{lineMalformed, chkDiffers, formatD, payloadTooLong, longestPayload}
-use Rattle.utf8.specs.Utf8.{utf8}
 use Rattle.text.specs.Decimal.{number, signed}
-use Rattle.text.specs.Hex.{isHex, hexValue}
+use Rattle.text.specs.Hex.{hexValue}
 use Rattle.names.specs.Reserved.{keyS, keyDst, keyChk, keyTtl, keySrc, keyMid, keyFrag, keySid, keySn, keyGt}
 use Rattle.crc16.specs.Crc.{crc16}
 use Rattle.envelope.specs.Texts.{callText, addressText, streamText, blankEnvelope}
 use Rattle.envelope.specs.Rules.{envelope}
 use Rattle.envelope.specs.declared.Envelope.{Envelope}
 use Rattle.tokens.specs.Cuts.{before, after}
-use Rattle.tokens.specs.Tokens.{Token, tokens, given, value, others, keyed, space}
+use Rattle.tokens.specs.Tokens.{Token, tokens, given, value, others}
 use Rattle.line_values.specs.Values.{slash}
 use Rattle.line_groups.specs.Rules.{deflated, payloadGood, singlesGood, fragmentGood, streamGood}
 use Rattle.line_groups.specs.Answers.{lenOf}
 use Rattle.line_headers.specs.Headers.{headersFit, headersOf}
+pub use Rattle.line_frame.specs.Frame.{ihave, verbWord, idWord, restOf}
+unfoldable pub use Rattle.line_frame.specs.Frame.{plain, isText, framed}
 use Rattle.line.specs.declared.Line.{Line}
 use Rattle.line.specs.declared.LineAnswer.{LineAnswer}
 use Rattle.line.specs.declared.Reading.the-variants.{Read, Refused}
-
--- ---- the line's text, its first two words, and the tokens behind them
-
--- `ihave`
-abbrev pub ihave : List ℕ
-ihave = 105 ∷ 104 ∷ 97 ∷ 118 ∷ 101 ∷ []
-
-abbrev pub verbWord : List ℕ → List ℕ
-verbWord s = before space s
-
-abbrev pub idWord : List ℕ → List ℕ
-idWord s = before space (after space s)
-
-abbrev pub restOf : List ℕ → List ℕ
-restOf s = after space (after space s)
-
--- no byte below 0x20, no 0x7F
-unfoldable pub plain : ℕ → Bool
-plain x = 0x20 ≤? x and no (x =? 0x7F)
-
--- at most 512 bytes, well-formed UTF-8
-unfoldable pub isText : List ℕ → Bool
-isText s = length s ≤? 512 and (utf8 s and every plain s)
-
--- `ihave`, the id, then `key=value` tokens, one space between, none at the end (a space more would make an empty word, which has no `=`);
--- no key twice; `chk`, if present, is last
-unfoldable pub framed : List ℕ → Bool
-framed s = same (verbWord s) ihave and (isHex 7 (idWord s) and keyed (restOf s))
 
 -- ---- what the line says
 

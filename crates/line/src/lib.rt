@@ -6,7 +6,6 @@ ghost use Prim.Native.Nat.{_-_, _≤_};
 ghost use Rattle.line.specs.Reading.{readOf};
 ghost use Rattle.line.specs.Steps.{rightChk, refusedBy};
 
-mod frame;
 mod values;
 
 // An offer as the line has it: the payload's length, and the fields that a datagram has too.
@@ -65,11 +64,11 @@ fn is_right(s: &[u8], has_chk: bool, chk: u16) -> bool
 pub fn read_line(s: &[u8]) -> LineAnswer
     ensures { λ r. ⌜ r ≡ readOf (now (s .entry)) ⌝ }
 {
-    if !frame::is_framed(s) {
+    if !line_frame::is_framed(s) {
         return refuse(refusals::LINE_MALFORMED);
     }
-    let id = frame::read_id(s);
-    let v = values::read_values(id.id, frame::rest(s));
+    let id = line_frame::read_id(s);
+    let v = values::read_values(id.id, line_frame::rest(s));
     if !v.good {
         return refuse(refusals::LINE_MALFORMED);
     }

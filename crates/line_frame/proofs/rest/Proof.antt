@@ -3,8 +3,8 @@ use mathlib.Core.Path.{ap, _∙_}
 use borrow.Author.Needs.{needs}
 use Rattle.tokens.specs.Tokens.{space}
 use Rattle.tokens.specs.Cuts.{before, after}
-use Rattle.line.proofs.frame.rest.Statement.{statement}
-use Rattle.line.proofs.frame.rest.Tie as tie
+use Rattle.line_frame.proofs.rest.Statement.{statement}
+use Rattle.line_frame.proofs.rest.Tie as tie
 
 returns : tie.Need-returns
 returns c = c .after-byte2 .ensures ∙ ap (after space) (c .before .after-byte .ensures)

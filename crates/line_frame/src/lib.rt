@@ -1,8 +1,8 @@
-// The line's text, its first two words, and the text of the tokens behind them.
+// Document 01, "The ihave line": the line's text, its first two words, and the text of the tokens behind them.
 ghost use mathlib.Core.Path.{_≡_};
 ghost use Rattle.octets.specs.Words.{_and_, every};
 ghost use Rattle.line_values.specs.Values.{masterOf};
-ghost use Rattle.line.specs.Reading.{plain, isText, framed, idWord, restOf};
+ghost use Rattle.line_frame.specs.Frame.{plain, isText, framed, idWord, restOf};
 
 // Whether no byte is below 0x20 and none is 0x7F.
 fn is_plain(s: &[u8]) -> bool
@@ -35,21 +35,21 @@ fn is_text(s: &[u8]) -> bool
 }
 
 // The id, the second word.
-pub(crate) fn read_id(s: &[u8]) -> line_values::Master
+pub fn read_id(s: &[u8]) -> line_values::Master
     ensures { λ r. ⌜ r ≡ masterOf (idWord (now (s .entry))) ⌝ }
 {
     line_values::read_master(tokens::before_byte(tokens::after_byte(s, b' '), b' '))
 }
 
 // What stands behind the id: the text of the tokens.
-pub(crate) fn rest(s: &[u8]) -> &[u8]
+pub fn rest(s: &[u8]) -> &[u8]
     ensures { λ r. ⌜ now r ≡ restOf (now (s .entry)) ⌝ }
 {
     tokens::after_byte(tokens::after_byte(s, b' '), b' ')
 }
 
 // Whether the line is such a text: `ihave`, the id, and tokens whose keys keep their rules.
-pub(crate) fn is_framed(s: &[u8]) -> bool
+pub fn is_framed(s: &[u8]) -> bool
     ensures { λ r. ⌜ r ≡ (isText (now (s .entry)) and framed (now (s .entry))) ⌝ }
 {
     if !is_text(s) {

@@ -4,8 +4,8 @@ use borrow.Author.Needs.{needs}
 use Rattle.tokens.specs.Tokens.{space}
 use Rattle.tokens.specs.Cuts.{before}
 use Rattle.line_values.specs.Values.{masterOf}
-use Rattle.line.proofs.frame.read_id.Statement.{statement}
-use Rattle.line.proofs.frame.read_id.Tie as tie
+use Rattle.line_frame.proofs.read_id.Statement.{statement}
+use Rattle.line_frame.proofs.read_id.Tie as tie
 
 returns : tie.Need-returns
 returns c =

@@ -10,7 +10,7 @@ use Rattle.tokens.specs.Tokens.{keyed}
 use Rattle.line_values.specs.Values.{masterOf}
 use Rattle.line_values.specs.declared.Master.{Master}
 use Rattle.line_values.proofs.Single.{master-good}
-use Rattle.line.specs.Reading.{ihave, verbWord, idWord, restOf, isText, framed}
+use Rattle.line_frame.specs.Frame.{ihave, verbWord, idWord, restOf, isText, framed}
 
 module _ (s : List ℕ) (a : Bool) (is-a : a ≡ isText s) (text : a ≡ true) (w : List ℕ) (is-w : w ≡ verbWord s) (b : Bool) (is-b : b ≡ same w ihave) where
   verb-is : same (verbWord s) ihave ≡ b

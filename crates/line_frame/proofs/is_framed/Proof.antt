@@ -4,9 +4,9 @@ use borrow.Author.Needs.{needs}
 use borrow.Author.Tests.{not-true, not-false}
 use Rattle.octets.proofs.Tests.{and-not-left}
 use Rattle.tokens.specs.Cuts.{before}
-use Rattle.line.proofs.Frames.{frame-verb, frame-id, frame-keys}
-use Rattle.line.proofs.frame.is_framed.Statement.{statement}
-use Rattle.line.proofs.frame.is_framed.Tie as tie
+use Rattle.line_frame.proofs.Frames.{frame-verb, frame-id, frame-keys}
+use Rattle.line_frame.proofs.is_framed.Statement.{statement}
+use Rattle.line_frame.proofs.is_framed.Tie as tie
 
 returns : tie.Need-returns
 returns c = sym (and-not-left _ _ (sym (c .before .is-text .ensures) ∙ not-true _ (c .if1 .taken)))

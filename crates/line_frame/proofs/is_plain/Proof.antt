@@ -5,11 +5,11 @@ use borrow.Author.Needs.{needs}
 use lib.ListN.{length, drop}
 use Rattle.octets.specs.Words.{every}
 use Rattle.octets.proofs.Lists.{every-next, every-not, every-end}
-use Rattle.line.specs.Reading.{plain}
+use Rattle.line_frame.specs.Frame.{plain}
 use Rattle.tokens.specs.Cuts.{before}
-use Rattle.line.proofs.Texts.{not-low, not-del, is-plain}
-use Rattle.line.proofs.frame.is_plain.Statement.{statement}
-use Rattle.line.proofs.frame.is_plain.Tie as tie
+use Rattle.line_frame.proofs.Plain.{not-low, not-del, is-plain}
+use Rattle.line_frame.proofs.is_plain.Statement.{statement}
+use Rattle.line_frame.proofs.is_plain.Tie as tie
 
 abbrev Inv-loop : tie.InvT-loop
 Inv-loop s i₀ i = (i ≤ length s) × (every plain s ≡ every plain (drop i s))

@@ -1,0 +1,37 @@
+-- Document 01, "The ihave line": the line's text, its first two words, and the tokens behind them.
+use Prim.Native.Nat.{ℕ}
+use mathlib.Core.Bool.{Bool}
+use mathlib.Core.List.{List, [], _∷_}
+use lib.ListN.{length}
+use Rattle.octets.specs.Words.{_and_, no, _≤?_, _=?_, every}
+use Rattle.octets.specs.Bytes.{same}
+use Rattle.utf8.specs.Utf8.{utf8}
+use Rattle.text.specs.Hex.{isHex}
+use Rattle.tokens.specs.Cuts.{before, after}
+use Rattle.tokens.specs.Tokens.{keyed, space}
+
+-- `ihave`
+abbrev pub ihave : List ℕ
+ihave = 105 ∷ 104 ∷ 97 ∷ 118 ∷ 101 ∷ []
+
+abbrev pub verbWord : List ℕ → List ℕ
+verbWord s = before space s
+
+abbrev pub idWord : List ℕ → List ℕ
+idWord s = before space (after space s)
+
+abbrev pub restOf : List ℕ → List ℕ
+restOf s = after space (after space s)
+
+-- no byte below 0x20, no 0x7F
+unfoldable pub plain : ℕ → Bool
+plain x = 0x20 ≤? x and no (x =? 0x7F)
+
+-- at most 512 bytes, well-formed UTF-8
+unfoldable pub isText : List ℕ → Bool
+isText s = length s ≤? 512 and (utf8 s and every plain s)
+
+-- `ihave`, the id, then `key=value` tokens, one space between, none at the end (a space more would make an empty word, which has no `=`);
+-- no key twice; `chk`, if present, is last
+unfoldable pub framed : List ℕ → Bool
+framed s = same (verbWord s) ihave and (isHex 7 (idWord s) and keyed (restOf s))

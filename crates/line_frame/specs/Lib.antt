@@ -1,0 +1,2 @@
+-- Document 01, "The ihave line": the frame of a line.
+pub mod Frame
