@@ -3,10 +3,9 @@ use mathlib.Core.Path.{_≡_, refl, sym, ap, _∙_}
 use Prim.Native.Nat.{ℕ, _-_, _≤_, _<_}
 use native.Mathlib.Omega.{arith}
 use mathlib.Core.Bool.{Bool, true, false}
-use mathlib.Core.List.{List, [], _∷_, map}
-use lib.ListN.{length, getD, set}
+use lib.ListN.{length}
 use borrow.Author.Tests.{lt-ltb, le-ltb, ltb-true, ltb-false, leb-true, eqb-true}
-use Rattle.octets.specs.Words.{if_then_else_, _and_, no, every, between, _<?_, _=?_}
+use Rattle.octets.specs.Words.{if_then_else_, no, every, between, _<?_, _=?_}
 use Rattle.octets.proofs.Tests.{if-yes, if-no, and-left, and-right, inside-low, inside-high}
 use Rattle.octets.proofs.Lists.{every-at}
 use Rattle.refusals.specs.Numbers.{stateBroken, storeLength, fragmentMalformed}

@@ -1,19 +1,16 @@
 -- Document 01, "The saved table": the image of a table, what an image says, and the two calls.
-use Prim.Native.Nat.{ℕ, zero, suc, _+_}
-use mathlib.Core.Bool.{true}
+use Prim.Native.Nat.{ℕ, _+_}
 use mathlib.Core.List.{List, [], _∷_, _++_}
 use mathlib.Core.Option.{Option, none, some}
-use lib.ListN.{length, take, drop}
+use lib.ListN.{length, drop}
 use Rattle.octets.specs.Words.{if_then_else_, _and_, no, _<?_}
 use Rattle.octets.specs.Bytes.{same, front}
-use Rattle.octets.specs.Field.{Res, bad, got, bind}
+use Rattle.octets.specs.Field.{Res, bad, got}
 use Rattle.refusals.specs.Numbers.{stateBroken, bufferTooShort, noSavedImage}
-use Rattle.keys.specs.declared.Key.{Key}
-use Rattle.rows.specs.declared.Row.{Row}
 use Rattle.rows.specs.Answer.{accepted, Outcome, refuse}
 use Rattle.streams.specs.declared.Slot.{Slot}
 use Rattle.streams.specs.declared.Table.{Table}
-use Rattle.streams.specs.Table.{freeSlot, keepsTable, count}
+use Rattle.streams.specs.Table.{keepsTable, count}
 use Rattle.records.specs.Record.{body}
 use Rattle.image.specs.Answer.{written, SaveOutcome, unsaved}
 pub use Rattle.image_rows.specs.Rows.{rowMark, opened, slotFrom, slotsFrom}

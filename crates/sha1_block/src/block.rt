@@ -1,6 +1,6 @@
 // One block (FIPS 180-4, 6.1.2): the message schedule, the eighty rounds, the sums.
 ghost use mathlib.Core.Path.{_≡_};
-ghost use Prim.Native.Nat.{_+_, _*_, _/_, _%_, _^_, _<_, _≤_};
+ghost use Prim.Native.Nat.{_+_, _*_, _%_, _^_, _<_, _≤_};
 ghost use lib.ListN.{length, take, drop};
 ghost use Rattle.sha1_block.specs.declared.Hash.{Hash};
 ghost use Rattle.sha1_block.specs.Block as fips;

@@ -3,7 +3,6 @@ use mathlib.Core.Path.{sym, _∙_}
 use borrow.Author.Needs.{needs}
 use borrow.Author.Tests.{not-true, not-false}
 use Rattle.octets.proofs.Tests.{if-yes, if-no, no-true, no-false}
-use Rattle.groups.specs.Groups.{complete}
 use Rattle.groupcalls.specs.Calls.{standing}
 use Rattle.groupcalls.proofs.standing_of.Statement.{statement}
 use Rattle.groupcalls.proofs.standing_of.Tie as tie
