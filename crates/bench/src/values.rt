@@ -8,18 +8,18 @@ pub(crate) const LONGEST_BYTES: usize = 16384;
 // The longest originator or stream id once decoded.
 pub(crate) const LONGEST_NAME: usize = 512;
 
-pub(crate) struct Number {
+pub(crate) struct Whole {
     pub(crate) ok: bool,
     pub(crate) value: u64,
 }
 
-pub(crate) struct Number32 {
+pub(crate) struct Whole32 {
     pub(crate) ok: bool,
     pub(crate) value: u32,
 }
 
 // A number of bytes, or of a place among them.
-pub(crate) struct Size {
+pub(crate) struct Sized {
     pub(crate) ok: bool,
     pub(crate) value: usize,
 }
@@ -44,7 +44,7 @@ pub(crate) struct Salted {
 }
 
 // What a piece of an argument stands for, and how many bytes of the argument it takes; 0 where it stands for nothing.
-struct Spelled {
+struct Spelling {
     byte: u8,
     width: usize,
 }
@@ -60,11 +60,11 @@ pub(crate) fn within(n: usize, len: usize) -> usize
 }
 
 // A decimal from 0 to `most`, without leading zero.
-pub(crate) fn number(w: &[u8], most: u64) -> Number {
+pub(crate) fn number(w: &[u8], most: u64) -> Whole {
     let n = text::read_number(w, most);
     match n {
-        text::Number::Is(v) => Number { ok: true, value: v },
-        text::Number::Malformed => Number {
+        text::Number::Is(v) => Whole { ok: true, value: v },
+        text::Number::Malformed => Whole {
             ok: false,
             value: 0,
         },
@@ -72,24 +72,24 @@ pub(crate) fn number(w: &[u8], most: u64) -> Number {
 }
 
 // A decimal from 0 to 4294967295.
-pub(crate) fn number32(w: &[u8]) -> Number32 {
+pub(crate) fn number32(w: &[u8]) -> Whole32 {
     let n = number(w, 4294967295);
     if n.value > 4294967295 {
-        return Number32 {
+        return Whole32 {
             ok: false,
             value: 0,
         };
     }
-    Number32 {
+    Whole32 {
         ok: n.ok,
         value: n.value as u32,
     }
 }
 
 // A decimal from 0 to `most`, as a number of bytes.
-pub(crate) fn size(w: &[u8], most: u64) -> Size {
+pub(crate) fn size(w: &[u8], most: u64) -> Sized {
     let n = number(w, most);
-    Size {
+    Sized {
         ok: n.ok,
         value: n.value as usize,
     }
@@ -114,12 +114,14 @@ fn worth(b: u8) -> u8
     16
 }
 
-fn nothing() -> Spelled {
-    Spelled { byte: 0, width: 0 }
+fn nothing() -> Spelling
+    ensures { λ r. ⌜ r .width ≤ 0 ⌝ }
+{
+    Spelling { byte: 0, width: 0 }
 }
 
 // What stands at the place `at`: a byte from 0x21 to 0x7E but `%` stands for itself, `%XX` for the byte XX.
-fn spelled(w: &[u8], at: usize) -> Spelled
+fn spelled(w: &[u8], at: usize) -> Spelling
     ensures { λ r. ⌜ r .width ≤ length (now (w .entry)) - at ⌝ }
 {
     if at >= w.len() {
@@ -133,7 +135,7 @@ fn spelled(w: &[u8], at: usize) -> Spelled
         return nothing();
     }
     if c != b'%' {
-        return Spelled { byte: c, width: 1 };
+        return Spelling { byte: c, width: 1 };
     }
     if w.len() - at < 3 {
         return nothing();
@@ -146,7 +148,7 @@ fn spelled(w: &[u8], at: usize) -> Spelled
     if low > 15 {
         return nothing();
     }
-    Spelled {
+    Spelling {
         byte: high * 16 + low,
         width: 3,
     }
@@ -230,17 +232,17 @@ pub(crate) fn salt(w: &[u8]) -> Salted {
 }
 
 // A master id: bytes that are 7 of `0-9a-f`.
-pub(crate) fn master_id(w: &[u8]) -> Number32 {
+pub(crate) fn master_id(w: &[u8]) -> Whole32 {
     let mut digits = [0u8; 7];
     let d = decode(w, &mut digits);
     let n = d.len;
     let id = text::read_id(&digits[0..n]);
     match id {
-        text::Id::Is(v) => Number32 {
+        text::Id::Is(v) => Whole32 {
             ok: d.ok,
             value: v,
         },
-        text::Id::Malformed => Number32 {
+        text::Id::Malformed => Whole32 {
             ok: false,
             value: 0,
         },
