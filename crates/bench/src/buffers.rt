@@ -18,6 +18,7 @@ pub(crate) struct Lending {
 
 // The sizes of the payload buffer and of the reply buffer.
 pub(crate) const PAYLOAD: usize = 4096;
+
 pub(crate) const REPLY: usize = 64;
 
 // Whether a line is `lend` or `store`.
@@ -82,7 +83,13 @@ fn bad(lent: Lent) -> Lending {
 }
 
 // `fill N`: every byte of the three buffers.
-pub(crate) fn fill_command(line: &[u8], payload: &mut [u8], reply: &mut [u8], store: &mut [u8], out: &mut [u8]) -> usize {
+pub(crate) fn fill_command(
+    line: &[u8],
+    payload: &mut [u8],
+    reply: &mut [u8],
+    store: &mut [u8],
+    out: &mut [u8],
+) -> usize {
     let n = values::number32(words::word(line, 1));
     if !n.ok {
         return out::BAD_COMMAND;
@@ -106,7 +113,13 @@ fn fill(s: &mut [u8], b: u8) {
 }
 
 // `peek BUFFER AT LEN`.
-pub(crate) fn peek_command(line: &[u8], payload: &[u8], reply: &[u8], store: &[u8], out: &mut [u8]) -> usize {
+pub(crate) fn peek_command(
+    line: &[u8],
+    payload: &[u8],
+    reply: &[u8],
+    store: &[u8],
+    out: &mut [u8],
+) -> usize {
     let w = words::word(line, 1);
     if words::is_word(w, b"payload") {
         return peek(line, payload, out);

@@ -1,9 +1,12 @@
 // A command's answer: the line goes to the file whose command it is.
 use crate::State;
 use crate::buffers;
+use crate::datagrams;
 use crate::fragment_calls;
 use crate::hashes;
+use crate::lines;
 use crate::out;
+use crate::sessions;
 use crate::stream_calls;
 use crate::values;
 use crate::words;
@@ -29,6 +32,9 @@ pub(crate) fn answer(
             state: state,
             written: n,
         };
+    }
+    if sessions::is_mine(line, state.is_open) {
+        return on_session(line, state, payload, reply, out);
     }
     if stream_calls::is_mine(line) {
         return on_streams(line, state, out);
@@ -59,7 +65,45 @@ fn plain(
     if words::is_command(line, b"peek", 4) {
         return buffers::peek_command(line, payload, reply, store, out);
     }
-    hashes::answer(line, out)
+    let h = hashes::answer(line, out);
+    if h != out::BAD_COMMAND {
+        return h;
+    }
+    let l = lines::answer(line, out);
+    if l != out::BAD_COMMAND {
+        return l;
+    }
+    datagrams::answer(line, out)
+}
+
+// A session call is lent the first bytes of its two buffers.
+fn on_session(
+    line: &[u8],
+    state: State,
+    payload: &mut [u8],
+    reply: &mut [u8],
+    out: &mut [u8],
+) -> Answered {
+    let mut after = state;
+    let session = state.session;
+    let lent = state.lent;
+    let p = values::within(lent.payload, payload.len());
+    let r = values::within(lent.reply, reply.len());
+    let t = sessions::answer(
+        line,
+        session,
+        state.is_open,
+        &mut payload[0..p],
+        &mut reply[0..r],
+        out,
+    );
+    let s = t.session;
+    after.session = s;
+    after.is_open = t.is_open;
+    Answered {
+        state: after,
+        written: t.written,
+    }
 }
 
 fn on_streams(line: &[u8], state: State, out: &mut [u8]) -> Answered {

@@ -24,7 +24,13 @@ pub(crate) fn is_mine(line: &[u8]) -> bool {
 }
 
 // The answer of a line that is one of them; the first `lent` bytes of the store are lent.
-pub(crate) fn answer(line: &[u8], groups: Groups, store: &mut [u8], lent: usize, out: &mut [u8]) -> Grouped {
+pub(crate) fn answer(
+    line: &[u8],
+    groups: Groups,
+    store: &mut [u8],
+    lent: usize,
+    out: &mut [u8],
+) -> Grouped {
     let w = words::word(line, 0);
     if words::is_word(w, b"sweep") {
         return sweep_command(line, groups, out);
@@ -53,9 +59,25 @@ fn keyed(line: &[u8], groups: Groups, store: &mut [u8], out: &mut [u8]) -> Group
         return bad(groups);
     }
     if words::is_word(words::word(line, 0), b"collect") {
-        return collect(line, groups, store, o.given, &originator[0..n], master.value, out);
+        return collect(
+            line,
+            groups,
+            store,
+            o.given,
+            &originator[0..n],
+            master.value,
+            out,
+        );
     }
-    add(line, groups, store, o.given, &originator[0..n], master.value, out)
+    add(
+        line,
+        groups,
+        store,
+        o.given,
+        &originator[0..n],
+        master.value,
+        out,
+    )
 }
 
 fn add(
@@ -146,7 +168,14 @@ fn collect_into(
     room: usize,
 ) -> Served {
     let n = values::within(room, bytes.len());
-    fragments::collect_group(groups, store, has_originator, originator, master, &mut bytes[0..n])
+    fragments::collect_group(
+        groups,
+        store,
+        has_originator,
+        originator,
+        master,
+        &mut bytes[0..n],
+    )
 }
 
 fn sweep_command(line: &[u8], groups: Groups, out: &mut [u8]) -> Grouped {

@@ -6,10 +6,14 @@ use talk::Session;
 
 mod buffers;
 mod commands;
+mod datagrams;
+mod fields;
 mod fragment_calls;
 mod hashes;
+mod lines;
 mod out;
 mod script;
+mod sessions;
 mod stream_calls;
 mod values;
 mod words;

@@ -104,7 +104,15 @@ fn answer_lines(
         if n == end - at {
             return keep_rest(state, too_long, at, n, input);
         }
-        state = answer_line(&input[at..at + n], too_long, state, payload, reply, store, out);
+        state = answer_line(
+            &input[at..at + n],
+            too_long,
+            state,
+            payload,
+            reply,
+            store,
+            out,
+        );
         too_long = false;
         at += n + 1;
     }

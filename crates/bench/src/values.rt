@@ -238,10 +238,7 @@ pub(crate) fn master_id(w: &[u8]) -> Whole32 {
     let n = d.len;
     let id = text::read_id(&digits[0..n]);
     match id {
-        text::Id::Is(v) => Whole32 {
-            ok: d.ok,
-            value: v,
-        },
+        text::Id::Is(v) => Whole32 { ok: d.ok, value: v },
         text::Id::Malformed => Whole32 {
             ok: false,
             value: 0,

@@ -1,0 +1,1 @@
+// Worked exchanges with the receiving session: theorems only, no code.

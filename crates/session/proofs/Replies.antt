@@ -1,0 +1,87 @@
+-- No reply is longer than 24 bytes; a reply that fits stands at the front of its buffer.
+use mathlib.Core.Path.{_≡_, refl, sym, ap, _∙_}
+use Prim.Native.Nat.{ℕ, _+_, _≤_}
+use native.Mathlib.Omega.{arith}
+use mathlib.Core.Bool.{Bool, true, false}
+use mathlib.Core.List.{List, [], _∷_, _++_}
+use lib.ListN.{length, drop, length-append}
+use borrow.Author.Tests.{le-leb}
+use Rattle.octets.specs.Words.{if_then_else_, _=?_}
+use Rattle.octets.specs.Bytes.{front, placed}
+use Rattle.octets.proofs.Tests.{if-yes, and-left, inside-high}
+use Rattle.octets.proofs.Lists.{placed-in}
+use Rattle.text.specs.Hex.{hexDigits}
+use Rattle.text.proofs.Numerals.{length-digits}
+use Rattle.sha1.specs.declared.Sha1.{Sha1}
+use Rattle.sha1.specs.Machine.{finished}
+use Rattle.sha1.specs.Id.{idNumber}
+use Rattle.line.specs.declared.Line.{Line}
+use Rattle.line.specs.declared.Reading.{Reading}
+use Rattle.line.specs.Reading.{readOf}
+use Rattle.phrases.specs.declared.Kind.{Kind}
+use Rattle.phrases.specs.Lines.{kindOf, isData, tokenOf, tokenGood}
+use Rattle.phrases.specs.Replies.{LF, prompt, 'error', sends, errs, acks, bads, wrote}
+use Rattle.talk.specs.declared.Terms.{Terms}
+use Rattle.talk.specs.declared.Session.{Session}
+use Rattle.talk.specs.Sessions.{salted, receiving, lineSoFar}
+use Rattle.talk.specs.Talk.{Turn, nothing, closing, offered, completed, heardAs, heard, dataHeard}
+use Rattle.session.specs.Feed.{obeyed}
+
+-- a reply that fits
+pub at-front : (w l : List ℕ) → length w ≤ length l → (wrote w l ≡ length w) × (placed w 0 l ≡ front w l)
+at-front w l h =
+    let z : 0 + length w ≡ length w = omega arith in
+    (if-yes _ _ _ (le-leb (0 + length w) (length l) (omega arith)), placed-in w 0 l (omega arith) ∙ ap (λ (n : ℕ). w ++ drop n l) z)
+
+-- ---- the lengths
+
+sends-short : (id : ℕ) → length (sends id) ≤ 24
+sends-short id = omega (arith, length-append (hexDigits 7 id) LF, length-digits 16 7 id)
+
+acks-short : (id : ℕ) → length (acks id) ≤ 24
+acks-short id = omega (arith, length-append (hexDigits 7 id) (LF ++ prompt), length-digits 16 7 id)
+
+bads-short : (id : ℕ) → length (bads id) ≤ 24
+bads-short id = omega (arith, length-append (hexDigits 7 id) (LF ++ prompt), length-digits 16 7 id)
+
+token-few : (t : List ℕ) → tokenGood t ≡ true → length t ≤ 7
+unfolding tokenGood
+token-few t e = inside-high 1 7 (length t) (and-left _ _ e)
+
+errs-short : (t : List ℕ) → length (errs t) ≤ 24
+errs-short t = go (tokenGood t) refl
+  where
+    go : (b : Bool) → tokenGood t ≡ b → length (if b then 'error' ++ (0x20 ∷ (t ++ LF)) else ('error' ++ LF)) ≤ 24
+    go true e = omega (arith, length-append t LF, token-few t e)
+    go false e = omega arith
+
+-- a turn whose reply is short, by the test that decides
+abbrev Short : Turn → Type 0
+Short t = length (t .reply) ≤ 24
+
+by-test : (b : Bool) (x y : Turn) → Short x → Short y → Short (if b then x else y)
+by-test true x y p q = p
+by-test false x y p q = q
+
+pub completed-short : (t : Terms) (h : Sha1) → length (completed t h .reply) ≤ 24
+unfolding completed
+completed-short t h = by-test (idNumber (finished h) =? t .id) _ _ (acks-short (t .id)) (bads-short (t .id))
+
+data-short : (t : Terms) (s : List ℕ) → length (dataHeard t s .reply) ≤ 24
+unfolding dataHeard
+data-short t s = by-test (isData (t .id) s) _ _ (by-test (t .len =? 0) _ _ (completed-short t (salted t)) (omega arith)) (omega arith)
+
+offered-short : (s : List ℕ) (r : Reading) (m : Line) → length (offered s r m .reply) ≤ 24
+offered-short s Reading.Read m = sends-short (m .fields .id)
+offered-short s (Reading.Refused n) m = errs-short (tokenOf s)
+
+heard-short : (k : Kind) (s : List ℕ) → length (heardAs k s .reply) ≤ 24
+heard-short Kind.Ihave s = offered-short s (readOf s .reading) (readOf s .line)
+heard-short Kind.Data s = omega arith
+heard-short Kind.Leave s = omega arith
+heard-short Kind.Ask s = omega arith
+heard-short Kind.Other s = omega arith
+
+pub obeyed-short : (s : Session) → length (obeyed s .reply) ≤ 24
+unfolding heard
+obeyed-short s = by-test (s .mode =? 0) _ _ (heard-short (kindOf (lineSoFar s)) (lineSoFar s)) (data-short (s .terms) (lineSoFar s))

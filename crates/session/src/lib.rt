@@ -1,0 +1,84 @@
+// Document 01, "The receiving session": bytes from the peer in, a reply and what happened out.
+ghost use mathlib.Core.Path.{_≡_};
+ghost use lib.ListN.{length};
+ghost use Rattle.octets.specs.Bytes.{front};
+ghost use Rattle.session.specs.Calls.{stepOf, openOf, openReply};
+
+mod pieces;
+mod rules;
+
+use line::Line;
+use phrases::Reply;
+use talk::Event;
+use talk::Session;
+
+// Whether a call was made, or refused by the paper's number.
+pub enum Stepping {
+    Went,
+    Refused(u8),
+}
+
+// A step's record: the bytes used, what happened, the bytes of the reply, the fields of an offer's line, and the session after it.
+pub struct Step {
+    pub stepping: Stepping,
+    pub used: usize,
+    pub event: Event,
+    pub written: usize,
+    pub line: Line,
+    pub session: Session,
+}
+
+pub struct Opened {
+    pub stepping: Stepping,
+    pub written: usize,
+    pub session: Session,
+}
+
+// The longest reply, and the shortest reply buffer.
+pub const LONGEST_REPLY: usize = 24;
+
+// Opens a session: the prompt is written.
+pub fn open_session(reply: &mut [u8]) -> Opened
+    ensures { λ r. ⌜ (r ≡ openOf (length (now (reply .entry)))) × (now (reply .exit) ≡ front (openReply (length (now (reply .entry)))) (now (reply .entry))) ⌝ }
+{
+    if reply.len() < LONGEST_REPLY {
+        let session = talk::closed();
+        let stepping = Stepping::Refused(refusals::BUFFER_TOO_SHORT);
+        return Opened {
+            stepping,
+            written: 0,
+            session,
+        };
+    }
+    let written = phrases::say(Reply::Prompt, b"", reply);
+    let session = talk::listening();
+    let stepping = Stepping::Went;
+    Opened {
+        stepping,
+        written,
+        session,
+    }
+}
+
+// Feeds a piece of the peer's bytes, up to the end of a line or of a payload.
+pub fn feed(s: Session, piece: &[u8], payload: &mut [u8], reply: &mut [u8]) -> Step
+    ensures { λ r. ⌜ (r ≡ stepOf s (now (piece .entry)) (now (payload .entry)) (length (now (reply .entry))) .answer) × (now (payload .exit) ≡ stepOf s (now (piece .entry)) (now (payload .entry)) (length (now (reply .entry))) .payload) × (now (reply .exit) ≡ front (stepOf s (now (piece .entry)) (now (payload .entry)) (length (now (reply .entry))) .reply) (now (reply .entry))) ⌝ }
+{
+    if !rules::keep_rules(s) {
+        return pieces::refuse(s, refusals::STATE_BROKEN);
+    }
+    let mode = s.mode;
+    if mode == 3 {
+        return pieces::refuse(s, refusals::SESSION_CLOSED);
+    }
+    if payload.len() < refusals::LONGEST_PAYLOAD {
+        return pieces::refuse(s, refusals::BUFFER_TOO_SHORT);
+    }
+    if reply.len() < LONGEST_REPLY {
+        return pieces::refuse(s, refusals::BUFFER_TOO_SHORT);
+    }
+    if mode == 2 {
+        return pieces::receive(s, piece, payload, reply);
+    }
+    pieces::listen(s, piece, reply)
+}
