@@ -5,8 +5,7 @@ use crate::out;
 use crate::values;
 use libc::STDIN_FILENO;
 use libc::STDOUT_FILENO;
-ghost use Prim.Native.Nat.{_+_, _≤_};
-ghost use lib.ListN.{length};
+ghost use Prim.Native.Nat.{_-_, _≤_};
 
 // A longer line is one `bad command`.
 const LONGEST_LINE: usize = 49999;
@@ -22,14 +21,14 @@ pub(crate) struct Reading {
 }
 
 // Answers a whole script. A proved loop has to end, and nothing says that the input does; so the loop counts its turns down, from a
-// number that no run uses up.
+// number that no run uses up. The buffers are lent as arrays here and below, so that their lengths need no proof from turn to turn.
 pub(crate) fn run(
     state: State,
-    input: &mut [u8],
-    payload: &mut [u8],
-    reply: &mut [u8],
-    store: &mut [u8],
-    out: &mut [u8],
+    input: &mut [u8; 65536],
+    payload: &mut [u8; 4096],
+    reply: &mut [u8; 64],
+    store: &mut [u8; 65536],
+    out: &mut [u8; 65536],
 ) {
     let mut turns = u64::MAX;
     let mut r = Reading {
@@ -59,21 +58,53 @@ fn read_more(input: &mut [u8], held: usize) -> usize {
 // The last line may lack its LF.
 fn finish(
     r: Reading,
-    input: &[u8],
-    payload: &mut [u8],
-    reply: &mut [u8],
-    store: &mut [u8],
-    out: &mut [u8],
+    input: &mut [u8; 65536],
+    payload: &mut [u8; 4096],
+    reply: &mut [u8; 64],
+    store: &mut [u8; 65536],
+    out: &mut [u8; 65536],
 ) {
-    let n = values::within(r.held, input.len());
     let state = r.state;
-    answer_line(&input[0..n], r.too_long, state, payload, reply, store, out);
+    answer_at(
+        input,
+        0,
+        r.held,
+        r.too_long,
+        state,
+        payload,
+        reply,
+        store,
+        out,
+    );
+}
+
+// Where what is read ends, after `got` bytes behind the `held` ones.
+fn end_of(input: &[u8], held: usize, got: usize) -> usize
+    ensures { λ r. ⌜ r ≤ 65536 ⌝ }
+{
+    let n = values::within(held, input.len());
+    values::within(n + values::within(got, input.len() - n), 65536)
+}
+
+// The part from `at` to `end`, as far as there is one.
+fn part(input: &[u8], at: usize, end: usize) -> &[u8] {
+    let e = values::within(end, input.len());
+    let a = values::within(at, e);
+    &input[a..e]
+}
+
+// How many of the bytes from `at` to `end` stand before the first LF.
+fn line_length(input: &[u8], at: usize, end: usize) -> usize
+    ensures { λ r. ⌜ r ≤ end - at ⌝ }
+{
+    if end < at {
+        return 0;
+    }
+    values::within(lf_place(part(input, at, end)), end - at)
 }
 
 // How many bytes stand before the first LF.
-fn line_length(s: &[u8]) -> usize
-    ensures { λ r. ⌜ r ≤ length (now (s .entry)) ⌝ }
-{
+fn lf_place(s: &[u8]) -> usize {
     let mut i: usize = 0;
     while i < s.len() {
         if s[i] == LF {
@@ -88,31 +119,22 @@ fn line_length(s: &[u8]) -> usize
 fn answer_lines(
     r: Reading,
     got: usize,
-    input: &mut [u8],
-    payload: &mut [u8],
-    reply: &mut [u8],
-    store: &mut [u8],
-    out: &mut [u8],
+    input: &mut [u8; 65536],
+    payload: &mut [u8; 4096],
+    reply: &mut [u8; 64],
+    store: &mut [u8; 65536],
+    out: &mut [u8; 65536],
 ) -> Reading {
-    let held = values::within(r.held, input.len());
-    let end = held + values::within(got, input.len() - held);
+    let end = end_of(input, r.held, got);
     let mut state = r.state;
     let mut too_long = r.too_long;
     let mut at: usize = 0;
     while at < end {
-        let n = line_length(&input[at..end]);
+        let n = line_length(input, at, end);
         if n == end - at {
             return keep_rest(state, too_long, at, n, input);
         }
-        state = answer_line(
-            &input[at..at + n],
-            too_long,
-            state,
-            payload,
-            reply,
-            store,
-            out,
-        );
+        state = answer_at(input, at, n, too_long, state, payload, reply, store, out);
         too_long = false;
         at += n + 1;
     }
@@ -123,10 +145,33 @@ fn answer_lines(
     }
 }
 
+// Writes the answer of the line of `n` bytes from `at` on.
+fn answer_at(
+    input: &[u8],
+    at: usize,
+    n: usize,
+    too_long: bool,
+    state: State,
+    payload: &mut [u8],
+    reply: &mut [u8],
+    store: &mut [u8],
+    out: &mut [u8],
+) -> State {
+    let a = values::within(at, input.len());
+    let k = values::within(n, input.len() - a);
+    answer_line(
+        &input[a..a + k],
+        too_long,
+        state,
+        payload,
+        reply,
+        store,
+        out,
+    )
+}
+
 // Keeps the `n` bytes from `at` on, the start of a line, unless they are more than a line has.
-fn keep_rest(state: State, too_long: bool, at: usize, n: usize, input: &mut [u8]) -> Reading
-    requires { ⌜ at + n ≤ length (now input) ⌝ }
-{
+fn keep_rest(state: State, too_long: bool, at: usize, n: usize, input: &mut [u8]) -> Reading {
     if too_long {
         return pass_over(state);
     }
@@ -150,11 +195,13 @@ fn pass_over(state: State) -> Reading {
 }
 
 // Moves the `n` bytes from `at` on to the front.
-fn move_front(input: &mut [u8], at: usize, n: usize)
-    requires { ⌜ at + n ≤ length (now input) ⌝ }
-{
+fn move_front(input: &mut [u8], at: usize, n: usize) {
+    if input.len() < at {
+        return;
+    }
+    let k = values::within(n, input.len() - at);
     let mut i: usize = 0;
-    while i < n {
+    while i < k {
         input[i] = input[at + i];
         i += 1;
     }

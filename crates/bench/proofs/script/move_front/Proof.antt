@@ -7,10 +7,10 @@ use Rattle.bench.proofs.script.move_front.Statement.{statement}
 use Rattle.bench.proofs.script.move_front.Tie as tie
 
 abbrev Inv-loop : tie.InvT-loop
-Inv-loop input₀ at n i₀ input i = (i ≤ n) × (length input ≡ length input₀)
+Inv-loop input₀ at n k i₀ input i = (i ≤ k) × (length input ≡ length input₀)
 
 abbrev μ-loop : tie.MeasureT-loop
-μ-loop input₀ at n i₀ input i = n - i
+μ-loop input₀ at n k i₀ input i = k - i
 
 pub move-front-spec : {M : Type 1} → statement M
 move-front-spec =
@@ -18,6 +18,9 @@ move-front-spec =
     (tie.spec
     Inv-loop
     μ-loop
+    (λ c. search needs)
+    (λ c. search needs)
+    (λ c κs. search needs)
     (λ c. search needs)
     (λ c. search needs)
     (λ c. search needs)
