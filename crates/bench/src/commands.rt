@@ -36,6 +36,11 @@ pub(crate) fn answer(
     if sessions::is_mine(line, state.is_open) {
         return on_session(line, state, payload, reply, out);
     }
+    kept(line, state, store, out)
+}
+
+// The commands that change what is kept, but for the session.
+fn kept(line: &[u8], state: State, store: &mut [u8], out: &mut [u8]) -> Answered {
     if stream_calls::is_mine(line) {
         return on_streams(line, state, out);
     }
