@@ -21,10 +21,7 @@ extern "C" {
     fn job_redatagram(bytes: *const u8, len: usize, out: *mut u8, room: usize) -> usize;
     fn job_streams() -> usize;
     fn job_image(bytes: *const u8, len: usize, out: *mut u8, room: usize) -> usize;
-    fn job_session(
-        offer: *const u8, offer_len: usize, data: *const u8, data_len: usize, bytes: *const u8, len: usize,
-        payload: *mut u8, payload_len: usize, reply: *mut u8, reply_len: usize,
-    ) -> usize;
+    fn job_session(offer: *const u8, offer_len: usize, data: *const u8, data_len: usize, bytes: *const u8, len: usize) -> usize;
 }
 
 /// The best of eleven runs of a job, in seconds.
@@ -121,19 +118,13 @@ fn sessions() {
         let id = hash::message_id(None, &payload);
         let offer = format!("ihave {id:07x} len={n} fmt=p dst=mail@G0RCV\n").into_bytes();
         let data = format!("data {id:07x}\n").into_bytes();
-        let (mut buffer, mut reply) = ([0u8; 4096], [0u8; 24]);
-        let proved = || unsafe {
-            job_session(
-                offer.as_ptr(), offer.len(), data.as_ptr(), data.len(), payload.as_ptr(), payload.len(),
-                buffer.as_mut_ptr(), 4096, reply.as_mut_ptr(), 24,
-            )
-        };
-        let mut other = vec![0u8; 4096];
+        let proved = || unsafe { job_session(offer.as_ptr(), offer.len(), data.as_ptr(), data.len(), payload.as_ptr(), payload.len()) };
         let plain = || {
+            let mut buffer = [0u8; 4096];
             let mut s = session::Session::open();
-            s.feed(&offer, &mut other);
-            s.feed(&data, &mut other);
-            s.feed(&payload, &mut other).2.len()
+            s.feed(&offer, &mut buffer);
+            s.feed(&data, &mut buffer);
+            s.feed(&payload, &mut buffer).2.len()
         };
         row(name, times, proved, plain);
     }
