@@ -9,7 +9,7 @@ use borrow.Author.Tests.{lt-leb}
 use lib.ListN.{length, drop, set, replicate}
 use lib.Seq.{sets, sets-eq}
 use Rattle.octets.specs.Words.{_≤?_}
-use Rattle.octets.specs.Field.{Res, bad, got, bind, Field, num, only, held, tagged, many, manyParse}
+use Rattle.octets.specs.Field.{Res, bad, got, bind, Field, num, only, through, tagged, many, manyParse}
 use Rattle.octets.proofs.Tests.{if-no, true-not-false}
 use Rattle.octets.proofs.FieldLaws.{num-laws, bound}
 use Rattle.headers.specs.declared.Header.{Header}
@@ -66,7 +66,7 @@ many-length F (suc k) s x m e =
 
 module _ {A S : Type 0} (F : Field A) (add : S → A → S) (start : S) (to : List A → S) (from : S → List A) (holds : S → Bool) (p : ℕ → Bool) (w : ℕ) (s : List ℕ) where
   abbrev Counted : Field S
-  Counted = held to from holds (tagged length (only p (num w)) (many F))
+  Counted = through to from holds (tagged length (only p (num w)) (many F))
 
   pub counted-short : (b : S) → num w .parse s ≡ bad → finding (Counted .parse s) s false b 0
   unfolding found

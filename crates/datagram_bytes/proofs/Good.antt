@@ -8,8 +8,7 @@ use borrow.Author.Tests.{le-leb, lt-ltb, eq-eqb, leb-true}
 use lib.ListN.{length, take, length-take}
 use lib.IntN.{pos}
 use lib.Signed.{mag}
-use mir.Syntax.{w64}
-use mir.ValLaws.{ofZ-fits}
+use Rattle.octets.proofs.SignLaws.{twos-below}
 use Rattle.octets.specs.Words.{_and_, _<?_, _≤?_, every}
 use Rattle.octets.specs.Field.{Field, num, when, signedNum}
 use Rattle.octets.specs.Numbers.{twos}
@@ -24,13 +23,13 @@ use Rattle.envelope.specs.declared.CallText.{CallText}
 use Rattle.envelope.specs.declared.AddressText.{AddressText}
 use Rattle.envelope.specs.declared.StreamText.{StreamText}
 use Rattle.envelope.specs.Texts.{callText, streamText}
-use Rattle.envelope.specs.Rules.{callOf, addressOf, streamOf, callIn, addressIn, streamIn, idIn, ttlIn, fragmentIn, given, envelope}
+use Rattle.envelope.specs.Rules.{callBytes, addressBytes, streamBytes, callIn, addressIn, streamIn, idIn, ttlIn, fragmentIn, ifSet, envelope}
 use Rattle.layout.specs.declared.Hops.{Hops}
 use Rattle.layout.specs.declared.Flags.{Flags}
 use Rattle.layout.specs.declared.Datagram.{Datagram}
 use Rattle.layout.specs.Texts.{hopsOf, noHops}
 use Rattle.layout.specs.Rules.{hopsIn, valid}
-use Rattle.layout.specs.Layout.{text, call, address, streamName, hexId, hops, header, headersOf, headers, one, numberOf, flags, saltIf, callIf, floodIf, hopsIf, fragment, fragmentIf, stream, streamIf, headersIf, opening, ends, way, options, messageFlags, openingOf, endsOf, wayOf, layout, message}
+use Rattle.layout.specs.Layout.{text, call, address, streamName, hexId, hops, header, headersOf, headers, one, flagsNumber, flags, saltIf, callIf, floodIf, hopsIf, fragment, fragmentIf, stream, streamIf, headersIf, opening, ends, way, options, messageFlags, openingOf, endsOf, wayOf, layout, message}
 use Rattle.datagram_bytes.specs.Bytes.{Typed}
 
 all-bytes : (l : List ℕ) → every (λ x. true) l ≡ true
@@ -49,15 +48,15 @@ cut n most l e = omega (arith, length-take n l, leb-true n most e)
 
 call-good : (w : ℕ) (t : CallText) → 12 < 256 ^ w → callIn t ≡ true → call w .ok t ≡ true
 unfolding call callIn
-call-good w t h e = and-both (t .len ≤? 12) _ (and-left (t .len ≤? 12) _ e) (text-good w 12 (callOf t) h (cut (t .len) 12 (t .bytes) (and-left (t .len ≤? 12) _ e)))
+call-good w t h e = and-both (t .len ≤? 12) _ (and-left (t .len ≤? 12) _ e) (text-good w 12 (callBytes t) h (cut (t .len) 12 (t .bytes) (and-left (t .len ≤? 12) _ e)))
 
 address-good : (t : AddressText) → addressIn t ≡ true → address .ok t ≡ true
 unfolding address addressIn
-address-good t e = and-both (t .len ≤? 45) _ (and-left (t .len ≤? 45) _ e) (text-good 2 45 (addressOf t) (omega arith) (cut (t .len) 45 (t .bytes) (and-left (t .len ≤? 45) _ e)))
+address-good t e = and-both (t .len ≤? 45) _ (and-left (t .len ≤? 45) _ e) (text-good 2 45 (addressBytes t) (omega arith) (cut (t .len) 45 (t .bytes) (and-left (t .len ≤? 45) _ e)))
 
 name-good : (t : StreamText) → streamIn t ≡ true → streamName .ok t ≡ true
 unfolding streamName streamIn
-name-good t e = and-both (t .len ≤? 255) _ (and-left (t .len ≤? 255) _ e) (text-good 1 255 (streamOf t) (omega arith) (cut (t .len) 255 (t .bytes) (and-left (t .len ≤? 255) _ e)))
+name-good t e = and-both (t .len ≤? 255) _ (and-left (t .len ≤? 255) _ e) (text-good 1 255 (streamBytes t) (omega arith) (cut (t .len) 255 (t .bytes) (and-left (t .len ≤? 255) _ e)))
 
 id-good : (v : ℕ) → idIn v ≡ true → hexId .ok v ≡ true
 unfolding hexId idIn
@@ -99,11 +98,11 @@ headers-good h l f e =
 
 -- ---- fields behind flags
 
-when-good : {A : Type 0} (b : Bool) (blank : A) (F : Field A) (a : A) (r : Bool) → given b r ≡ true → (r ≡ true → F .ok a ≡ true) → when b blank F .ok a ≡ true
+when-good : {A : Type 0} (b : Bool) (blank : A) (F : Field A) (a : A) (r : Bool) → ifSet b r ≡ true → (r ≡ true → F .ok a ≡ true) → when b blank F .ok a ≡ true
 when-good true blank F a r e h = h e
 when-good false blank F a r e h = refl
 
-always : (b : Bool) → given b true ≡ true
+always : (b : Bool) → ifSet b true ≡ true
 always true = refl
 always false = refl
 
@@ -116,11 +115,11 @@ one-small true = omega arith
 one-small false = omega arith
 
 flags-good : (f : Flags) → flags .ok f ≡ true
-unfolding flags numberOf
+unfolding flags flagsNumber
 flags-good f =
-    let h : numberOf f < 1024 =
+    let h : flagsNumber f < 1024 =
     omega (arith, one-small (f .salt), one-small (f .ttl), one-small (f .headers), one-small (f .originator), one-small (f .link), one-small (f .flood), one-small (f .route), one-small (f .hops), one-small (f .fragment), one-small (f .stream)) in
-    and-both _ _ (lt-ltb (numberOf f) (256 ^ 2) (omega arith)) (lt-ltb (numberOf f) (2 ^ 10) h)
+    and-both _ _ (lt-ltb (flagsNumber f) (256 ^ 2) (omega arith)) (lt-ltb (flagsNumber f) (2 ^ 10) h)
 
 module _ (m : Datagram) (t : Typed m) (e : valid m ≡ true) where
   -- the message's rules, one by one
@@ -128,7 +127,7 @@ module _ (m : Datagram) (t : Typed m) (e : valid m ≡ true) where
   unfolding valid
   shared = and-left (envelope (m .fields)) _ e
 
-  own : given (m .«has_link») (callIn (m .link)) and (given (m .«has_route») (hopsIn (m .route)) and given (m .«has_hops») (hopsIn (m .hops))) ≡ true
+  own : ifSet (m .«has_link») (callIn (m .link)) and (ifSet (m .«has_route») (hopsIn (m .route)) and ifSet (m .«has_hops») (hopsIn (m .hops))) ≡ true
   unfolding valid
   own = and-right (envelope (m .fields)) _ e
 
@@ -137,12 +136,12 @@ module _ (m : Datagram) (t : Typed m) (e : valid m ≡ true) where
   layout-good =
       let x = m .fields in
       let r1 = and-right (idIn (x .id)) _ shared in
-      let r2 = and-right (given (x .«has_ttl») (ttlIn (x .ttl))) _ r1 in
-      let r3 = and-right (given (x .«has_src») (callIn (x .src))) _ r2 in
-      let r4 = and-right (given (x .«has_fragment») (fragmentIn (x .mid) (x .index) (x .total))) _ r3 in
-      let r5 = and-right (given (x .«has_stream») (streamIn (x .sid))) _ r4 in
-      let o1 = and-right (given (m .«has_link») (callIn (m .link))) _ own in
-      let salt = and-both (mag (x .salt) <? 2 ^ 63) _ (lt-ltb _ _ (t .salt)) (lt-ltb (twos (x .salt)) (256 ^ 8) (ofZ-fits w64 (x .salt) (record { sfits = t .salt }) .fits)) in
+      let r2 = and-right (ifSet (x .«has_ttl») (ttlIn (x .ttl))) _ r1 in
+      let r3 = and-right (ifSet (x .«has_src») (callIn (x .src))) _ r2 in
+      let r4 = and-right (ifSet (x .«has_fragment») (fragmentIn (x .mid) (x .index) (x .total))) _ r3 in
+      let r5 = and-right (ifSet (x .«has_stream») (streamIn (x .sid))) _ r4 in
+      let o1 = and-right (ifSet (m .«has_link») (callIn (m .link))) _ own in
+      let salt = and-both (mag (x .salt) <? 2 ^ 63) _ (lt-ltb _ _ (t .salt)) (lt-ltb (twos (x .salt)) (256 ^ 8) (twos-below (x .salt) (t .salt))) in
       let head = and-both (flags .ok (messageFlags m)) _ (flags-good (messageFlags m)) (and-both (hexId .ok (x .id)) _ (id-good (x .id) (and-left (idIn (x .id)) _ shared))
       (and-both (saltIf (x .«has_salt») .ok (x .salt)) _ (when-good (x .«has_salt») (pos 0) signedNum (x .salt) true (always (x .«has_salt»)) (λ q. salt))
       (when-good (x .«has_ttl») 0 (num 4) (x .ttl) true (always (x .«has_ttl»)) (λ q. lt-ltb (x .ttl) (256 ^ 4) (t .ttl))))) in
@@ -151,7 +150,7 @@ module _ (m : Datagram) (t : Typed m) (e : valid m ≡ true) where
       (when-good (m .«has_link») (callText []) (call 2) (m .link) (callIn (m .link)) (and-left _ _ own) (call-good 2 (m .link) (omega arith)))) in
       let path = and-both (floodIf (m .«has_flood») .ok (m .flood)) _ (when-good (m .«has_flood») 0 (num 1) (m .flood) true (always (m .«has_flood»)) (λ q. lt-ltb (m .flood) (256 ^ 1) (t .flood)))
       (and-both (hopsIf (m .«has_route») .ok (m .route)) _ (when-good (m .«has_route») noHops hops (m .route) (hopsIn (m .route)) (and-left _ _ o1) (hops-good (m .route)))
-      (when-good (m .«has_hops») noHops hops (m .hops) (hopsIn (m .hops)) (and-right (given (m .«has_route») (hopsIn (m .route))) _ o1) (hops-good (m .hops)))) in
+      (when-good (m .«has_hops») noHops hops (m .hops) (hopsIn (m .hops)) (and-right (ifSet (m .«has_route») (hopsIn (m .route))) _ o1) (hops-good (m .hops)))) in
       let g : ℕ × (ℕ × ℕ) = (x .mid, (x .index, x .total)) in
       let s : StreamText × (ℕ × ℕ) = (x .sid, (x .sn, x .gt)) in
       let last = and-both (fragmentIf (x .«has_fragment») .ok g) _

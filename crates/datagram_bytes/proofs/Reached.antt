@@ -14,17 +14,17 @@ use Rattle.names.specs.Texts.{textByte, ruled, idText, streamId, headerKey, hea
 use Rattle.headers.specs.Keys.{allDiffer, keyOf, keysOf}
 use Rattle.headers.specs.Rule as rule
 use Rattle.headers.specs.Rule.{valueOf}
-use Rattle.envelope.specs.Texts.{held, padded}
+use Rattle.envelope.specs.Texts.{fitted, padded}
 use Rattle.envelope.specs.Rules.{addressIn, callIn, streamIn, idIn, ttlIn, fragmentIn, envelope}
 use Rattle.layout.specs.Rules.{hopsIn, valid}
-use Rattle.layout.specs.Layout.{text, call, address, streamName, hops, header, headers, hexId, numberOf, flags, opening, ends, way, options, layout}
+use Rattle.layout.specs.Layout.{text, call, address, streamName, hops, header, headers, hexId, flagsNumber, flags, opening, ends, way, options, layout}
 use Rattle.datagram_bytes.specs.Bytes.{bytesOf}
 use Rattle.datagram_bytes.specs.Examples.{longestMessage}
 
 pub longest-valid : valid longestMessage ≡ true
-unfolding valid envelope idIn ttlIn callIn addressIn streamIn fragmentIn hopsIn callsign baseLength suffix alnum destination atCallsign appByte run rest streamId idText ruled textByte headerKey headerValue reserved reservedKeys same rule.headers rule.header keyOf valueOf keysOf allDiffer held padded u.run
+unfolding valid envelope idIn ttlIn callIn addressIn streamIn fragmentIn hopsIn callsign baseLength suffix alnum destination atCallsign appByte run rest streamId idText ruled textByte headerKey headerValue reserved reservedKeys same rule.headers rule.header keyOf valueOf keysOf allDiffer fitted padded u.run
 longest-valid = refl
 
 pub longest-reached : length (bytesOf longestMessage (replicate 4096 0)) ≡ 6205
-unfolding bytesOf layout opening ends way options flags numberOf hexId address call streamName hops header headers text littleBytes digits keyOf valueOf held padded
+unfolding bytesOf layout opening ends way options flags flagsNumber hexId address call streamName hops header headers text littleBytes digits keyOf valueOf fitted padded
 longest-reached = refl

@@ -8,7 +8,7 @@ use native.Mathlib.Nat.{mul-suc, mul-zero}
 use lib.ListN.{length, length-append}
 use lib.IntN.{pos}
 use Rattle.octets.specs.Words.{_and_, _≤?_, between, every}
-use Rattle.octets.specs.Field.{Field, num, when, seq, held, manyPrint, signedNum}
+use Rattle.octets.specs.Field.{Field, num, when, seq, through, manyPrint, signedNum}
 use Rattle.octets.specs.Numbers.{twos}
 use Rattle.octets.proofs.NumberLaws.{length-bytes}
 use Rattle.octets.proofs.Tests.{and-left, and-right, inside-high}
@@ -16,11 +16,11 @@ use Rattle.text.proofs.Numerals.{length-digits}
 use Rattle.headers.specs.Keys.{keyOf}
 use Rattle.headers.specs.Rule.{valueOf}
 use Rattle.envelope.specs.Texts.{callText, addressText, streamText, headerText, noHeaders}
-use Rattle.envelope.specs.Rules.{callOf, addressOf, streamOf}
+use Rattle.envelope.specs.Rules.{callBytes, addressBytes, streamBytes}
 use Rattle.layout.specs.declared.Flags.{Flags}
 use Rattle.layout.specs.declared.Datagram.{Datagram}
 use Rattle.layout.specs.Texts.{hopsOf, hopArray, noHops}
-use Rattle.layout.specs.Layout.{text, call, address, streamName, hexId, hopList, hops, header, headerList, headersOf, headerArray, headers, flags, numberOf, saltIf, callIf, floodIf, hopsIf, fragment, fragmentIf, stream, streamIf, opening, ends, way, options, messageOf, partsOf, parts, layout}
+use Rattle.layout.specs.Layout.{text, call, address, streamName, hexId, hopList, hops, header, headerList, headersOf, headerArray, headers, flags, flagsNumber, saltIf, callIf, floodIf, hopsIf, fragment, fragmentIf, stream, streamIf, opening, ends, way, options, messageOf, partsOf, parts, layout}
 use Rattle.layout.proofs.Laws.{text-short, hopList-short, headerList-between}
 use Rattle.layout.proofs.Valid.{each}
 
@@ -43,7 +43,7 @@ seq-size F G j k f g = record {
       omega (arith, length-append (F .print (x .0)) (G (x .0) .print (x .1)), f .most (x .0) (and-left (F .ok (x .0)) _ e), g (x .0) .most (x .1) (and-right (F .ok (x .0)) _ e));
 }
 
-held-size : {A B : Type 0} (to : A → B) (from : B → A) (holds : B → Bool) (F : Field A) (k : ℕ) → Sized F k → Sized (held to from holds F) k
+held-size : {A B : Type 0} (to : A → B) (from : B → A) (holds : B → Bool) (F : Field A) (k : ℕ) → Sized F k → Sized (through to from holds F) k
 held-size to from holds F k f = record { most = λ b e. f .most (from b) (and-right (holds b) (F .ok (from b)) e) }
 
 many-size : {A : Type 0} (F : Field A) (k : ℕ) → Sized F k → (l : List A) → every (F .ok) l ≡ true → length (manyPrint F l) ≤ k * length l
@@ -59,15 +59,15 @@ text-size w most = record { most = λ l e. omega (arith, length-append (num w .p
 
 call-size : (w : ℕ) → Sized (call w) (w + 12)
 unfolding call
-call-size w = held-size callText callOf (λ t. t .len ≤? 12) (text w 12) (w + 12) (text-size w 12)
+call-size w = held-size callText callBytes (λ t. t .len ≤? 12) (text w 12) (w + 12) (text-size w 12)
 
 address-size : Sized address 47
 unfolding address
-address-size = held-size addressText addressOf (λ t. t .len ≤? 45) (text 2 45) 47 (text-size 2 45)
+address-size = held-size addressText addressBytes (λ t. t .len ≤? 45) (text 2 45) 47 (text-size 2 45)
 
 name-size : Sized streamName 256
 unfolding streamName
-name-size = held-size streamText streamOf (λ t. t .len ≤? 255) (text 1 255) 256 (text-size 1 255)
+name-size = held-size streamText streamBytes (λ t. t .len ≤? 255) (text 1 255) 256 (text-size 1 255)
 
 id-size : Sized hexId 7
 unfolding hexId
@@ -75,7 +75,7 @@ id-size = record { most = λ v e. omega (arith, length-digits 16 7 v) }
 
 flags-size : Sized flags 2
 unfolding flags
-flags-size = record { most = λ f e. omega (arith, length-bytes 2 (numberOf f)) }
+flags-size = record { most = λ f e. omega (arith, length-bytes 2 (flagsNumber f)) }
 
 salt-size : Sized signedNum 8
 salt-size = record { most = λ z e. omega (arith, length-bytes 8 (twos z)) }

@@ -7,8 +7,7 @@ use native.Mathlib.Omega.{arith}
 use borrow.Author.Tests.{leb-true, leb-false}
 use lib.ListN.{length, take, length-take, length-map}
 use lib.IntN.{ℤ, pos}
-use mir.Syntax.{w64}
-use mir.ValLaws.{toZ-ofZ}
+use Rattle.octets.proofs.SignLaws.{twos-back}
 use Rattle.octets.specs.Words.{if_then_else_, _and_, _≤?_}
 use Rattle.octets.specs.Field.{Field, num, when, signedNum}
 use Rattle.octets.proofs.Tests.{and-left, and-right}
@@ -17,7 +16,7 @@ use Rattle.envelope.specs.declared.CallText.{CallText}
 use Rattle.envelope.specs.declared.AddressText.{AddressText}
 use Rattle.envelope.specs.declared.StreamText.{StreamText}
 use Rattle.envelope.specs.Texts.{callText, addressText, streamText, noHeaders}
-use Rattle.envelope.specs.Rules.{callOf, addressOf, streamOf}
+use Rattle.envelope.specs.Rules.{callBytes, addressBytes, streamBytes}
 use Rattle.envelope.specs.Tidy.{behind, tidyHeader, tidyHeaders, tidy}
 use Rattle.layout.specs.declared.Hops.{Hops}
 use Rattle.layout.specs.declared.Flags.{Flags}
@@ -34,11 +33,11 @@ when-tidy : {A : Type 0} (b : Bool) (blank : A) (F : Field A) (a c : A) → when
 when-tidy true blank F a c e h = h e
 when-tidy false blank F a c e h = refl
 
-call-tidy : (t : CallText) → call 2 .tidy t ≡ callText (callOf t)
+call-tidy : (t : CallText) → call 2 .tidy t ≡ callText (callBytes t)
 unfolding call text
 call-tidy t = refl
 
-address-tidy : (t : AddressText) → address .tidy t ≡ addressText (addressOf t)
+address-tidy : (t : AddressText) → address .tidy t ≡ addressText (addressBytes t)
 unfolding address text
 address-tidy t = refl
 
@@ -51,7 +50,7 @@ fragment-tidy : (b : Bool) (mid index total : ℕ) → fragmentIf b .ok (mid, (i
 fragment-tidy true mid index total e = ap (λ (v : ℕ). (v, (index, total))) (id-tidy mid (and-left (hexId .ok mid) _ e))
 fragment-tidy false mid index total e = refl
 
-stream-tidy : (b : Bool) (sid : StreamText) (sn gt : ℕ) → streamIf b .tidy (sid, (sn, gt)) ≡ ((if b then streamText (streamOf sid) else streamText []), (behind b sn, behind b gt))
+stream-tidy : (b : Bool) (sid : StreamText) (sn gt : ℕ) → streamIf b .tidy (sid, (sn, gt)) ≡ ((if b then streamText (streamBytes sid) else streamText []), (behind b sn, behind b gt))
 unfolding streamName text
 stream-tidy true sid sn gt = refl
 stream-tidy false sid sn gt = refl
@@ -90,11 +89,11 @@ message-tidy m t e =
     layout-tidy m
     ∙ same-message f _ _ _ _ _ _ _ _ _ _ _ _ _ _ _ _ _ _ _ _ _ _ _ _
     (id-tidy (x .id) (and-left (hexId .ok (x .id)) _ o))
-    (when-tidy (x .«has_salt») (pos 0) signedNum (x .salt) (x .salt) (and-left _ _ st) (λ q. toZ-ofZ w64 (x .salt) (record { sfits = t .salt })))
+    (when-tidy (x .«has_salt») (pos 0) signedNum (x .salt) (x .salt) (and-left _ _ st) (λ q. twos-back (x .salt) (t .salt)))
     (when-tidy (x .«has_ttl») 0 (num 4) (x .ttl) (x .ttl) (and-right (saltIf (x .«has_salt») .ok (x .salt)) _ st) (λ q. refl))
     (address-tidy (x .dst))
-    (when-tidy (x .«has_src») (callText []) (call 2) (x .src) (callText (callOf (x .src))) (and-left _ _ n1) (λ q. call-tidy (x .src)))
-    (when-tidy (m .«has_link») (callText []) (call 2) (m .link) (callText (callOf (m .link))) (and-right (callIf (x .«has_src») .ok (x .src)) _ n1) (λ q. call-tidy (m .link)))
+    (when-tidy (x .«has_src») (callText []) (call 2) (x .src) (callText (callBytes (x .src))) (and-left _ _ n1) (λ q. call-tidy (x .src)))
+    (when-tidy (m .«has_link») (callText []) (call 2) (m .link) (callText (callBytes (m .link))) (and-right (callIf (x .«has_src») .ok (x .src)) _ n1) (λ q. call-tidy (m .link)))
     (when-tidy (m .«has_flood») 0 (num 1) (m .flood) (m .flood) (and-left _ _ w0) (λ q. refl))
     (when-tidy (m .«has_route») noHops hops (m .route) (tidyHops (m .route)) (and-left _ _ w1) (λ q. hops-tidy (m .route)))
     (when-tidy (m .«has_hops») noHops hops (m .hops) (tidyHops (m .hops)) (and-right (hopsIf (m .«has_route») .ok (m .route)) _ w1) (λ q. hops-tidy (m .hops)))

@@ -3,7 +3,7 @@ use layout::Flags;
 ghost use mathlib.Core.Path.{_≡_};
 ghost use Prim.Native.Nat.{_*_, _≤_};
 ghost use Rattle.octets.specs.Field.{num, when};
-ghost use Rattle.layout.specs.Layout.{one, numberOf, flags, hexId, saltIf, fragmentIf};
+ghost use Rattle.layout.specs.Layout.{one, flagsNumber, flags, hexId, saltIf, fragmentIf};
 ghost use Rattle.datagram_writer.specs.Steps.{Room, Put};
 
 pub(crate) fn put_number(v: u64, width: usize, out: &mut [u8], at: usize) -> usize
@@ -36,7 +36,7 @@ fn bit(on: bool, weight: u64) -> u64
 }
 
 fn number_of(f: Flags) -> u64
-    ensures { λ r. ⌜ r ≡ numberOf f ⌝ }
+    ensures { λ r. ⌜ r ≡ flagsNumber f ⌝ }
 {
     bit(f.salt, 1)
         + bit(f.ttl, 2)

@@ -6,20 +6,20 @@ use lib.ListN.{length, replicate}
 use lib.IntN.{pos}
 use Rattle.headers.specs.declared.Headers.{Headers}
 pub use Rattle.held_texts.specs.Texts.{zeros, headerText}
-unfoldable pub use Rattle.held_texts.specs.Texts.{held, padded, withHeader}
+unfoldable pub use Rattle.held_texts.specs.Texts.{fitted, padded, withHeader}
 use Rattle.envelope.specs.declared.CallText.{CallText}
 use Rattle.envelope.specs.declared.AddressText.{AddressText}
 use Rattle.envelope.specs.declared.StreamText.{StreamText}
 use Rattle.envelope.specs.declared.Envelope.{Envelope}
 
 abbrev pub callText : List ℕ → CallText
-callText s = record { len = length (held 12 s); bytes = padded 12 (held 12 s) }
+callText s = record { len = length (fitted 12 s); bytes = padded 12 (fitted 12 s) }
 
 abbrev pub addressText : List ℕ → AddressText
-addressText s = record { len = length (held 45 s); bytes = padded 45 (held 45 s) }
+addressText s = record { len = length (fitted 45 s); bytes = padded 45 (fitted 45 s) }
 
 abbrev pub streamText : List ℕ → StreamText
-streamText s = record { len = length (held 255 s); bytes = padded 255 (held 255 s) }
+streamText s = record { len = length (fitted 255 s); bytes = padded 255 (fitted 255 s) }
 
 -- no message: every number 0, every flag clear, every text empty
 abbrev pub noHeaders : Headers

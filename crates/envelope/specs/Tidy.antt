@@ -16,7 +16,7 @@ use Rattle.envelope.specs.declared.AddressText.{AddressText}
 use Rattle.envelope.specs.declared.StreamText.{StreamText}
 use Rattle.envelope.specs.declared.Envelope.{Envelope}
 use Rattle.envelope.specs.Texts.{callText, addressText, streamText, headerText}
-use Rattle.envelope.specs.Rules.{callOf, addressOf, streamOf}
+use Rattle.envelope.specs.Rules.{callBytes, addressBytes, streamBytes}
 
 -- a number behind a flag
 abbrev pub behind : Bool → ℕ → ℕ
@@ -36,15 +36,15 @@ tidy e = record {
   «has_ttl» = e .«has_ttl»;
   ttl = behind (e .«has_ttl») (e .ttl);
   «has_src» = e .«has_src»;
-  src = if e .«has_src» then callText (callOf (e .src)) else callText [];
+  src = if e .«has_src» then callText (callBytes (e .src)) else callText [];
   «has_fragment» = e .«has_fragment»;
   mid = behind (e .«has_fragment») (e .mid);
   index = behind (e .«has_fragment») (e .index);
   total = behind (e .«has_fragment») (e .total);
   «has_stream» = e .«has_stream»;
-  sid = if e .«has_stream» then streamText (streamOf (e .sid)) else streamText [];
+  sid = if e .«has_stream» then streamText (streamBytes (e .sid)) else streamText [];
   sn = behind (e .«has_stream») (e .sn);
   gt = behind (e .«has_stream») (e .gt);
   headers = tidyHeaders (e .headers);
-  dst = addressText (addressOf (e .dst));
+  dst = addressText (addressBytes (e .dst));
 }

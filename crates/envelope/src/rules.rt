@@ -3,10 +3,10 @@ use crate::AddressText;
 use crate::CallText;
 use crate::StreamText;
 ghost use mathlib.Core.Path.{_≡_};
-ghost use Rattle.envelope.specs.Rules.{callIn, streamIn, addressIn, given};
+ghost use Rattle.envelope.specs.Rules.{callIn, streamIn, addressIn, ifSet};
 
 pub(crate) fn src_rule(has: bool, src: CallText) -> bool
-    ensures { λ r. ⌜ r ≡ given has (callIn src) ⌝ }
+    ensures { λ r. ⌜ r ≡ ifSet has (callIn src) ⌝ }
 {
     if !has {
         return true;
@@ -15,7 +15,7 @@ pub(crate) fn src_rule(has: bool, src: CallText) -> bool
 }
 
 pub(crate) fn stream_rule(has: bool, sid: StreamText) -> bool
-    ensures { λ r. ⌜ r ≡ given has (streamIn sid) ⌝ }
+    ensures { λ r. ⌜ r ≡ ifSet has (streamIn sid) ⌝ }
 {
     if !has {
         return true;

@@ -6,12 +6,12 @@ use native.Mathlib.Omega.{arith}
 use borrow.Author.Tests.{le-leb, not-true, not-false}
 use Rattle.octets.specs.Words.{_and_, _≤?_}
 use Rattle.octets.proofs.Tests.{if-yes, if-no, and-next, and-not-left, below, inside}
-use Rattle.field_rules.specs.Rules.{given, idIn, ttlIn, fragmentIn}
+use Rattle.field_rules.specs.Rules.{ifSet, idIn, ttlIn, fragmentIn}
 
-pub absent : (flag rule : Bool) → not flag ≡ true → true ≡ given flag rule
+pub absent : (flag rule : Bool) → not flag ≡ true → true ≡ ifSet flag rule
 absent flag rule e = sym (if-no flag rule true (not-true flag e))
 
-pub present : (flag rule r : Bool) → not flag ≡ false → r ≡ rule → r ≡ given flag rule
+pub present : (flag rule r : Bool) → not flag ≡ false → r ≡ rule → r ≡ ifSet flag rule
 present flag rule r e h = h ∙ sym (if-yes flag rule true (not-false flag e))
 
 pub ttl-low : (v : ℕ) → v < 1 → false ≡ ttlIn v

@@ -16,5 +16,5 @@ unfoldable pub fragmentIn : ℕ → ℕ → ℕ → Bool
 fragmentIn mid n m = idIn mid and (between 2 65535 m and between 1 m n)
 
 -- where the flag is set, the rule holds
-abbrev pub given : Bool → Bool → Bool
-given flag rule = if flag then rule else true
+abbrev pub ifSet : Bool → Bool → Bool
+ifSet flag rule = if flag then rule else true

@@ -1,6 +1,5 @@
 // Document 01, "Names and fields": the headers of a message, and whether their keys all differ.
 ghost use mathlib.Core.Path.{_≡_};
-ghost use Prim.Native.Nat.{_≤_, min};
 ghost use Rattle.octets.specs.Bytes.{same};
 ghost use Rattle.headers.specs.Keys.{allDiffer, keyOf, keysOf};
 ghost use Rattle.headers.specs.Rule.{header, headers};
@@ -19,22 +18,12 @@ pub struct Headers {
     pub count: usize,
 }
 
-// A length, cut to what an array has.
-fn at_most(n: usize, room: usize) -> usize
-    ensures { λ r. ⌜ (r ≡ min n room) × (r ≤ room) ⌝ }
-{
-    if n <= room {
-        return n;
-    }
-    room
-}
-
 // Whether two headers have the same key.
 fn same_key(a: Header, b: Header) -> bool
     ensures { λ r. ⌜ r ≡ same (keyOf a) (keyOf b) ⌝ }
 {
-    let n = at_most(a.key_len, 32);
-    let m = at_most(b.key_len, 32);
+    let n = lengths::at_most(a.key_len, 32);
+    let m = lengths::at_most(b.key_len, 32);
     let k = a.key;
     let l = b.key;
     octets::equal(&k[0..n], &l[0..m])
@@ -44,7 +33,7 @@ fn same_key(a: Header, b: Header) -> bool
 pub fn keys_differ(h: Headers) -> bool
     ensures { λ r. ⌜ r ≡ allDiffer (keysOf h) ⌝ }
 {
-    let n = at_most(h.count, 8);
+    let n = lengths::at_most(h.count, 8);
     let mut differ = true;
     let mut i = 0;
     'pairs: while i < n {

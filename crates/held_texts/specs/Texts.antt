@@ -8,8 +8,8 @@ use Rattle.headers.specs.declared.Header.{Header}
 use Rattle.headers.specs.declared.Headers.{Headers}
 
 -- what of a text an array of n bytes can hold: all of it, or nothing
-unfoldable pub held : ℕ → List ℕ → List ℕ
-held n s = if length s ≤? n then s else []
+unfoldable pub fitted : ℕ → List ℕ → List ℕ
+fitted n s = if length s ≤? n then s else []
 
 -- n zeros
 abbrev pub zeros : ℕ → List ℕ
@@ -21,10 +21,10 @@ padded n s = front s (zeros n)
 
 abbrev pub headerText : List ℕ → List ℕ → Header
 headerText k v = record {
-  key = padded 32 (held 32 k);
-  «key_len» = length (held 32 k);
-  value = padded 128 (held 128 v);
-  «value_len» = length (held 128 v);
+  key = padded 32 (fitted 32 k);
+  «key_len» = length (fitted 32 k);
+  value = padded 128 (fitted 128 v);
+  «value_len» = length (fitted 128 v);
 }
 
 -- the headers, and one more behind them; of eight there are no more

@@ -2,13 +2,13 @@
 ghost use mathlib.Core.Path.{_≡_};
 ghost use lib.ListN.{length};
 ghost use Rattle.octets.specs.Bytes.{front};
-ghost use Rattle.held_texts.specs.Texts.{held, headerText, withHeader};
+ghost use Rattle.held_texts.specs.Texts.{fitted, headerText, withHeader};
 use headers::Header;
 use headers::Headers;
 
 // The text at the array's front, and its length; a text that is too long changes nothing.
 pub fn fill(s: &[u8], out: &mut [u8]) -> usize
-    ensures { λ r. ⌜ (r ≡ length (held (length (now (out .entry))) (now (s .entry)))) × (now (out .exit) ≡ front (held (length (now (out .entry))) (now (s .entry))) (now (out .entry))) ⌝ }
+    ensures { λ r. ⌜ (r ≡ length (fitted (length (now (out .entry))) (now (s .entry)))) × (now (out .exit) ≡ front (fitted (length (now (out .entry))) (now (s .entry))) (now (out .entry))) ⌝ }
 {
     if octets::copy_at(s, out, 0) {
         return s.len();

@@ -9,9 +9,9 @@ use lib.Seq.{take-append-seam}
 use lib.IntN.{pos}
 use borrow.Author.Tests.{le-leb, lt-ltb, leb-true, ltb-true, eqb-true, eq-eqb, ne-eqb}
 use Rattle.octets.specs.Words.{_and_, _<?_, _≤?_, _=?_, between}
-use Rattle.octets.specs.Field.{Field, num, raw, only, seq, held, many, signedNum}
+use Rattle.octets.specs.Field.{Field, num, raw, only, seq, through, many, signedNum}
 use Rattle.octets.proofs.Tests.{if-yes, and-left, and-right, and-both, inside-high}
-use Rattle.octets.proofs.FieldLaws.{Laws, num-laws, raw-laws, only-laws, when-laws, seq-laws, tagged-laws, held-laws, many-laws, signed-laws}
+use Rattle.octets.proofs.FieldLaws.{Laws, num-laws, raw-laws, only-laws, when-laws, seq-laws, tagged-laws, through-laws, many-laws, signed-laws}
 use Rattle.text.specs.Digits.{isDigit}
 use Rattle.text.specs.Hex.{hexValue, hexDigits}
 use Rattle.text.proofs.Hexes.{hex-forth, hex-below}
@@ -21,10 +21,10 @@ use Rattle.headers.specs.Rule.{valueOf}
 use Rattle.envelope.specs.declared.CallText.{CallText}
 use Rattle.envelope.specs.Texts as texts
 use Rattle.envelope.specs.Texts.{padded, callText, addressText, streamText, headerText, noHeaders}
-use Rattle.envelope.specs.Rules.{callOf, addressOf, streamOf}
+use Rattle.envelope.specs.Rules.{callBytes, addressBytes, streamBytes}
 use Rattle.layout.specs.declared.Flags.{Flags}
 use Rattle.layout.specs.Texts.{hopsOf, hopArray, noHops}
-use Rattle.layout.specs.Layout.{text, call, address, streamName, hexId, hopList, hops, header, headerList, headersOf, headerArray, headers, bit, flagsOf, one, numberOf, flags, saltIf, ttlIf, callIf, floodIf, hopsIf, fragment, fragmentIf, stream, streamIf, headersIf}
+use Rattle.layout.specs.Layout.{text, call, address, streamName, hexId, hopList, hops, header, headerList, headersOf, headerArray, headers, bit, flagsOf, one, flagsNumber, flags, saltIf, ttlIf, callIf, floodIf, hopsIf, fragment, fragmentIf, stream, streamIf, headersIf}
 
 -- ---- texts
 
@@ -43,41 +43,41 @@ unfolding text
 text-short w most l e = leb-true (length l) most (and-right (num w .ok (length l)) _ (and-left _ _ e))
 
 -- a text that an array can hold is held whole
-pub held-whole : (n : ℕ) (l : List ℕ) → length l ≤ n → texts.held n l ≡ l
-unfolding texts.held
+pub held-whole : (n : ℕ) (l : List ℕ) → length l ≤ n → texts.fitted n l ≡ l
+unfolding texts.fitted
 held-whole n l h = if-yes _ _ _ (le-leb (length l) n h)
 
-pub held-text : (n : ℕ) (l : List ℕ) → length l ≤ n → take (length (texts.held n l)) (padded n (texts.held n l)) ≡ l
+pub held-text : (n : ℕ) (l : List ℕ) → length l ≤ n → take (length (texts.fitted n l)) (padded n (texts.fitted n l)) ≡ l
 unfolding padded
 held-text n l h = rw (held-whole n l h) (take-append-seam l _)
 
-held-length : (n : ℕ) (l : List ℕ) → length l ≤ n → (length (texts.held n l) ≤? n) ≡ true
+held-length : (n : ℕ) (l : List ℕ) → length l ≤ n → (length (texts.fitted n l) ≤? n) ≡ true
 held-length n l h = rw (held-whole n l h) (le-leb (length l) n h)
 
 pub call-laws : (w : ℕ) → Laws (call w)
 unfolding call
 call-laws w =
-    held-laws callText callOf (λ t. t .len ≤? 12) (text w 12) (λ l e. (held-text 12 l (text-short w 12 l e), held-length 12 l (text-short w 12 l e)))
+    through-laws callText callBytes (λ t. t .len ≤? 12) (text w 12) (λ l e. (held-text 12 l (text-short w 12 l e), held-length 12 l (text-short w 12 l e)))
     (text-laws w 12)
 
 pub address-laws : Laws address
 unfolding address
 address-laws =
-    held-laws addressText addressOf (λ t. t .len ≤? 45) (text 2 45)
+    through-laws addressText addressBytes (λ t. t .len ≤? 45) (text 2 45)
     (λ l e. (held-text 45 l (text-short 2 45 l e), held-length 45 l (text-short 2 45 l e)))
     (text-laws 2 45)
 
 pub streamName-laws : Laws streamName
 unfolding streamName
 streamName-laws =
-    held-laws streamText streamOf (λ t. t .len ≤? 255) (text 1 255)
+    through-laws streamText streamBytes (λ t. t .len ≤? 255) (text 1 255)
     (λ l e. (held-text 255 l (text-short 1 255 l e), held-length 255 l (text-short 1 255 l e)))
     (text-laws 1 255)
 
 pub hexId-laws : Laws hexId
 unfolding hexId
 hexId-laws =
-    held-laws hexValue (hexDigits 7) (λ v. v <? 2 ^ 28) (raw (isDigit 16) 7) (λ l e. (hex-forth 7 l e, lt-ltb _ _ (hex-below 7 l e))) (raw-laws (isDigit 16) 7)
+    through-laws hexValue (hexDigits 7) (λ v. v <? 2 ^ 28) (raw (isDigit 16) 7) (λ l e. (hex-forth 7 l e, lt-ltb _ _ (hex-below 7 l e))) (raw-laws (isDigit 16) 7)
 
 -- ---- lists
 
@@ -96,12 +96,12 @@ hopList-short l e = leb-true (length l) 16 (and-right (num 1 .ok (length l)) _ (
 pub hops-laws : Laws hops
 unfolding hops
 hops-laws =
-    held-laws hopArray hopsOf (λ h. h .count ≤? 16) hopList (λ l e. (take-append-seam l _, le-leb _ _ (hopList-short l e))) hopList-laws
+    through-laws hopArray hopsOf (λ h. h .count ≤? 16) hopList (λ l e. (take-append-seam l _, le-leb _ _ (hopList-short l e))) hopList-laws
 
 pub header-laws : Laws header
 unfolding header keyOf valueOf
 header-laws =
-    held-laws (λ x. headerText (x .0) (x .1)) (λ h. (keyOf h, valueOf h)) (λ h. h .«key_len» ≤? 32 and h .«value_len» ≤? 128)
+    through-laws (λ x. headerText (x .0) (x .1)) (λ h. (keyOf h, valueOf h)) (λ h. h .«key_len» ≤? 32 and h .«value_len» ≤? 128)
     (seq (text 2 32) (λ key. text 2 128))
     (λ x e.
     let k = text-short 2 32 (x .0) (and-left _ _ e) in
@@ -121,7 +121,7 @@ headerList-between l e = and-right (num 2 .ok (length l)) _ (and-left _ _ e)
 pub headers-laws : Laws headers
 unfolding headers
 headers-laws =
-    held-laws headerArray headersOf (λ h. h .count ≤? 8) headerList
+    through-laws headerArray headersOf (λ h. h .count ≤? 8) headerList
     (λ l e. (take-append-seam l _, le-leb _ _ (inside-high 1 8 (length l) (headerList-between l e))))
     headerList-laws
 
@@ -151,32 +151,32 @@ ten-digits : (v q1 q2 q3 q4 q5 q6 q7 q8 b0 b1 b2 b3 b4 b5 b6 b7 b8 b9 : ℕ) →
     → b0 + (2 * b1 + (4 * b2 + (8 * b3 + (16 * b4 + (32 * b5 + (64 * b6 + (128 * b7 + (256 * b8 + 512 * b9)))))))) ≡ v
 ten-digits v q1 q2 q3 q4 q5 q6 q7 q8 b0 b1 b2 b3 b4 b5 b6 b7 b8 b9 e0 e1 e2 e3 e4 e5 e6 e7 e8 = omega arith
 
-pub number-bits : (v : ℕ) → v < 2 ^ 10 → numberOf (flagsOf v) ≡ v
-unfolding numberOf flagsOf
+pub number-bits : (v : ℕ) → v < 2 ^ 10 → flagsNumber (flagsOf v) ≡ v
+unfolding flagsNumber flagsOf
 number-bits v h =
     rw (one-bit 0 v, one-bit 1 v, one-bit 2 v, one-bit 3 v, one-bit 4 v, one-bit 5 v, one-bit 6 v, one-bit 7 v, one-bit 8 v, one-bit 9 v)
     (ten-digits v (v / 2) (v / 4) (v / 8) (v / 16) (v / 32) (v / 64) (v / 128) (v / 256) (v / 1 % 2) (v / 2 % 2) (v / 4 % 2) (v / 8 % 2) (v / 16 % 2) (v / 32 % 2) (v / 64 % 2) (v / 128 % 2) (v / 256 % 2) (v / 512 % 2)
     (omega arith) (omega arith) (omega arith) (omega arith) (omega arith) (omega arith) (omega arith) (omega arith) (omega arith))
 
-pub bits-number : (f : Flags) → flagsOf (numberOf f) ≡ f
-unfolding numberOf flagsOf bit
+pub bits-number : (f : Flags) → flagsOf (flagsNumber f) ≡ f
+unfolding flagsNumber flagsOf bit
 bits-number f = rw (
-  is-one (f .salt) (numberOf f / 1 % 2) (omega (arith, one-small (f .salt), one-small (f .ttl), one-small (f .headers), one-small (f .originator), one-small (f .link), one-small (f .flood), one-small (f .route), one-small (f .hops), one-small (f .fragment), one-small (f .stream))),
-  is-one (f .ttl) (numberOf f / 2 % 2) (omega (arith, one-small (f .salt), one-small (f .ttl), one-small (f .headers), one-small (f .originator), one-small (f .link), one-small (f .flood), one-small (f .route), one-small (f .hops), one-small (f .fragment), one-small (f .stream))),
-  is-one (f .headers) (numberOf f / 4 % 2) (omega (arith, one-small (f .salt), one-small (f .ttl), one-small (f .headers), one-small (f .originator), one-small (f .link), one-small (f .flood), one-small (f .route), one-small (f .hops), one-small (f .fragment), one-small (f .stream))),
-  is-one (f .originator) (numberOf f / 8 % 2) (omega (arith, one-small (f .salt), one-small (f .ttl), one-small (f .headers), one-small (f .originator), one-small (f .link), one-small (f .flood), one-small (f .route), one-small (f .hops), one-small (f .fragment), one-small (f .stream))),
-  is-one (f .link) (numberOf f / 16 % 2) (omega (arith, one-small (f .salt), one-small (f .ttl), one-small (f .headers), one-small (f .originator), one-small (f .link), one-small (f .flood), one-small (f .route), one-small (f .hops), one-small (f .fragment), one-small (f .stream))),
-  is-one (f .flood) (numberOf f / 32 % 2) (omega (arith, one-small (f .salt), one-small (f .ttl), one-small (f .headers), one-small (f .originator), one-small (f .link), one-small (f .flood), one-small (f .route), one-small (f .hops), one-small (f .fragment), one-small (f .stream))),
-  is-one (f .route) (numberOf f / 64 % 2) (omega (arith, one-small (f .salt), one-small (f .ttl), one-small (f .headers), one-small (f .originator), one-small (f .link), one-small (f .flood), one-small (f .route), one-small (f .hops), one-small (f .fragment), one-small (f .stream))),
-  is-one (f .hops) (numberOf f / 128 % 2) (omega (arith, one-small (f .salt), one-small (f .ttl), one-small (f .headers), one-small (f .originator), one-small (f .link), one-small (f .flood), one-small (f .route), one-small (f .hops), one-small (f .fragment), one-small (f .stream))),
-  is-one (f .fragment) (numberOf f / 256 % 2) (omega (arith, one-small (f .salt), one-small (f .ttl), one-small (f .headers), one-small (f .originator), one-small (f .link), one-small (f .flood), one-small (f .route), one-small (f .hops), one-small (f .fragment), one-small (f .stream))),
-  is-one (f .stream) (numberOf f / 512 % 2) (omega (arith, one-small (f .salt), one-small (f .ttl), one-small (f .headers), one-small (f .originator), one-small (f .link), one-small (f .flood), one-small (f .route), one-small (f .hops), one-small (f .fragment), one-small (f .stream))),
+  is-one (f .salt) (flagsNumber f / 1 % 2) (omega (arith, one-small (f .salt), one-small (f .ttl), one-small (f .headers), one-small (f .originator), one-small (f .link), one-small (f .flood), one-small (f .route), one-small (f .hops), one-small (f .fragment), one-small (f .stream))),
+  is-one (f .ttl) (flagsNumber f / 2 % 2) (omega (arith, one-small (f .salt), one-small (f .ttl), one-small (f .headers), one-small (f .originator), one-small (f .link), one-small (f .flood), one-small (f .route), one-small (f .hops), one-small (f .fragment), one-small (f .stream))),
+  is-one (f .headers) (flagsNumber f / 4 % 2) (omega (arith, one-small (f .salt), one-small (f .ttl), one-small (f .headers), one-small (f .originator), one-small (f .link), one-small (f .flood), one-small (f .route), one-small (f .hops), one-small (f .fragment), one-small (f .stream))),
+  is-one (f .originator) (flagsNumber f / 8 % 2) (omega (arith, one-small (f .salt), one-small (f .ttl), one-small (f .headers), one-small (f .originator), one-small (f .link), one-small (f .flood), one-small (f .route), one-small (f .hops), one-small (f .fragment), one-small (f .stream))),
+  is-one (f .link) (flagsNumber f / 16 % 2) (omega (arith, one-small (f .salt), one-small (f .ttl), one-small (f .headers), one-small (f .originator), one-small (f .link), one-small (f .flood), one-small (f .route), one-small (f .hops), one-small (f .fragment), one-small (f .stream))),
+  is-one (f .flood) (flagsNumber f / 32 % 2) (omega (arith, one-small (f .salt), one-small (f .ttl), one-small (f .headers), one-small (f .originator), one-small (f .link), one-small (f .flood), one-small (f .route), one-small (f .hops), one-small (f .fragment), one-small (f .stream))),
+  is-one (f .route) (flagsNumber f / 64 % 2) (omega (arith, one-small (f .salt), one-small (f .ttl), one-small (f .headers), one-small (f .originator), one-small (f .link), one-small (f .flood), one-small (f .route), one-small (f .hops), one-small (f .fragment), one-small (f .stream))),
+  is-one (f .hops) (flagsNumber f / 128 % 2) (omega (arith, one-small (f .salt), one-small (f .ttl), one-small (f .headers), one-small (f .originator), one-small (f .link), one-small (f .flood), one-small (f .route), one-small (f .hops), one-small (f .fragment), one-small (f .stream))),
+  is-one (f .fragment) (flagsNumber f / 256 % 2) (omega (arith, one-small (f .salt), one-small (f .ttl), one-small (f .headers), one-small (f .originator), one-small (f .link), one-small (f .flood), one-small (f .route), one-small (f .hops), one-small (f .fragment), one-small (f .stream))),
+  is-one (f .stream) (flagsNumber f / 512 % 2) (omega (arith, one-small (f .salt), one-small (f .ttl), one-small (f .headers), one-small (f .originator), one-small (f .link), one-small (f .flood), one-small (f .route), one-small (f .hops), one-small (f .fragment), one-small (f .stream))),
 )
 
 pub flags-laws : Laws flags
 unfolding flags
 flags-laws =
-    held-laws flagsOf numberOf (λ f. true) (only (λ v. v <? 2 ^ 10) (num 2)) (λ v e. (number-bits v (ltb-true v (2 ^ 10) (and-right (num 2 .ok v) _ e)), refl))
+    through-laws flagsOf flagsNumber (λ f. true) (only (λ v. v <? 2 ^ 10) (num 2)) (λ v e. (number-bits v (ltb-true v (2 ^ 10) (and-right (num 2 .ok v) _ e)), refl))
     (only-laws (λ v. v <? 2 ^ 10) (num 2) (λ a h. refl) (num-laws 2))
 
 -- ---- the groups

@@ -23,8 +23,8 @@ use Rattle.headers.specs.Rule.{valueOf}
 use Rattle.envelope.specs.declared.CallText.{CallText}
 use Rattle.envelope.specs.declared.AddressText.{AddressText}
 use Rattle.envelope.specs.declared.StreamText.{StreamText}
-use Rattle.envelope.specs.Texts.{held, padded, callText, streamText, noHeaders}
-use Rattle.envelope.specs.Rules.{callOf, addressOf, streamOf, callIn, addressIn, streamIn, idIn, ttlIn, fragmentIn, given, envelope}
+use Rattle.envelope.specs.Texts.{fitted, padded, callText, streamText, noHeaders}
+use Rattle.envelope.specs.Rules.{callBytes, addressBytes, streamBytes, callIn, addressIn, streamIn, idIn, ttlIn, fragmentIn, ifSet, envelope}
 use Rattle.layout.specs.declared.Hops.{Hops}
 use Rattle.layout.specs.declared.Datagram.{Datagram}
 use Rattle.layout.specs.Texts.{hopsOf, noHops}
@@ -35,29 +35,29 @@ use Rattle.layout.proofs.Whole.{flags-tidy, layout-laws}
 
 -- a rule behind a flag
 given-when : {A : Type 0} (b : Bool) (blank : A) (F : Field A) (r : A → Bool) (a : A) → when b blank F .ok a ≡ true → (F .ok a ≡ true → r (F .tidy a) ≡ r a)
-    → given b (r (when b blank F .tidy a)) ≡ given b (r a)
+    → ifSet b (r (when b blank F .tidy a)) ≡ ifSet b (r a)
 given-when true blank F r a e h = h e
 given-when false blank F r a e h = refl
 
 -- ---- texts
 
 text-rule : (p : List ℕ → Bool) (n len : ℕ) (l : List ℕ) → (len ≤? n) ≡ true → length l ≤ n
-    → (length (held n l) ≤? n and p (take (length (held n l)) (padded n (held n l)))) ≡ (len ≤? n and p l)
+    → (length (fitted n l) ≤? n and p (take (length (fitted n l)) (padded n (fitted n l)))) ≡ (len ≤? n and p l)
 text-rule p n len l e h =
-    let w : (length (held n l) ≤? n) ≡ true = rw (held-whole n l h) (le-leb (length l) n h) in
+    let w : (length (fitted n l) ≤? n) ≡ true = rw (held-whole n l h) (le-leb (length l) n h) in
     and-next _ _ w ∙ ap p (held-text n l h) ∙ sym (and-next _ _ e)
 
 pub call-rule : (w : ℕ) (t : CallText) → call w .ok t ≡ true → callIn (call w .tidy t) ≡ callIn t
 unfolding call callIn text
-call-rule w t e = text-rule callsign 12 (t .len) (callOf t) (and-left _ _ e) (text-short w 12 (callOf t) (and-right (t .len ≤? 12) _ e))
+call-rule w t e = text-rule callsign 12 (t .len) (callBytes t) (and-left _ _ e) (text-short w 12 (callBytes t) (and-right (t .len ≤? 12) _ e))
 
 address-rule : (t : AddressText) → address .ok t ≡ true → addressIn (address .tidy t) ≡ addressIn t
 unfolding address addressIn text
-address-rule t e = text-rule destination 45 (t .len) (addressOf t) (and-left _ _ e) (text-short 2 45 (addressOf t) (and-right (t .len ≤? 45) _ e))
+address-rule t e = text-rule destination 45 (t .len) (addressBytes t) (and-left _ _ e) (text-short 2 45 (addressBytes t) (and-right (t .len ≤? 45) _ e))
 
 stream-rule : (t : StreamText) → streamName .ok t ≡ true → streamIn (streamName .tidy t) ≡ streamIn t
 unfolding streamName streamIn text
-stream-rule t e = text-rule streamId 255 (t .len) (streamOf t) (and-left _ _ e) (text-short 1 255 (streamOf t) (and-right (t .len ≤? 255) _ e))
+stream-rule t e = text-rule streamId 255 (t .len) (streamBytes t) (and-left _ _ e) (text-short 1 255 (streamBytes t) (and-right (t .len ≤? 255) _ e))
 
 pub id-tidy : (v : ℕ) → hexId .ok v ≡ true → hexId .tidy v ≡ v
 unfolding hexId

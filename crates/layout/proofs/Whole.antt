@@ -7,7 +7,7 @@ use native.Mathlib.Omega.{arith}
 use lib.ListN.{length, drop, length-take}
 use borrow.Author.Tests.{le-leb}
 use Rattle.octets.specs.Words.{_≤?_}
-use Rattle.octets.specs.Field.{Field, got, seq, held}
+use Rattle.octets.specs.Field.{Field, got, seq, through}
 use Rattle.octets.proofs.Tests.{and-right, inside-low}
 use Rattle.octets.proofs.FieldLaws.{Read, Laws, bound, seq-laws}
 use Rattle.headers.specs.declared.Headers.{Headers}
@@ -57,8 +57,8 @@ Comes {A = A} to from F = (a : A) → F .ok a ≡ true → F .tidy a ≡ a → f
 moved : {A : Type 0} (F : Field A) (s : List ℕ) (a b : A) (n m : ℕ) → a ≡ b → n ≡ m → Read F s b m → Read F s a n
 moved F s a b n m e f r = rw (e, f) r
 
-held-tidy-laws : {A B : Type 0} (to : A → B) (from : B → A) (F : Field A) → Comes to from F → Laws F → Laws (held to from (λ b. true) F)
-held-tidy-laws to from F out lf = record {
+through-tidy-laws : {A B : Type 0} (to : A → B) (from : B → A) (F : Field A) → Comes to from F → Laws F → Laws (through to from (λ b. true) F)
+through-tidy-laws to from F out lf = record {
   back = λ b t h. rw (lf .back (from b) t h);
   forth = λ s b n hs e.
       let b1 = bound (F .parse s) (λ a n. got (to a) n) b n e in
@@ -66,7 +66,7 @@ held-tidy-laws to from F out lf = record {
       let eb : b ≡ to (b1 .val) = cc in
       let en : n ≡ b1 .used = cc in
       let w = out (b1 .val) (r .good) (r .tidied) in
-      moved (held to from (λ b. true) F) s b (to (b1 .val)) n (b1 .used) eb en (record {
+      moved (through to from (λ b. true) F) s b (to (b1 .val)) n (b1 .used) eb en (record {
         good = rw w (r .good);
         tidied = rw (w, r .tidied);
         size = r .size ∙ ap (λ a. length (F .print a)) (sym w);
@@ -116,4 +116,4 @@ comes-back x e t =
 
 pub layout-laws : Laws layout
 unfolding layout
-layout-laws = held-tidy-laws messageOf partsOf parts comes-back parts-laws
+layout-laws = through-tidy-laws messageOf partsOf parts comes-back parts-laws

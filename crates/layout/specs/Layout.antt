@@ -7,7 +7,7 @@ use lib.ListN.{length, take, replicate}
 use lib.IntN.{ℤ, pos}
 use Rattle.octets.specs.Words.{if_then_else_, _and_, _<?_, _≤?_, _=?_, between}
 use Rattle.octets.specs.Bytes.{front}
-use Rattle.octets.specs.Field.{Field, num, raw, only, when, seq, tagged, held, many, signedNum}
+use Rattle.octets.specs.Field.{Field, num, raw, only, when, seq, tagged, through, many, signedNum}
 use Rattle.text.specs.Digits.{isDigit}
 use Rattle.text.specs.Hex.{hexValue, hexDigits}
 use Rattle.headers.specs.declared.Header.{Header}
@@ -18,7 +18,7 @@ use Rattle.envelope.specs.declared.CallText.{CallText}
 use Rattle.envelope.specs.declared.AddressText.{AddressText}
 use Rattle.envelope.specs.declared.StreamText.{StreamText}
 use Rattle.envelope.specs.Texts.{callText, addressText, streamText, headerText, noHeaders}
-use Rattle.envelope.specs.Rules.{callOf, addressOf, streamOf}
+use Rattle.envelope.specs.Rules.{callBytes, addressBytes, streamBytes}
 use Rattle.layout.specs.declared.Hops.{Hops}
 use Rattle.layout.specs.declared.Flags.{Flags}
 use Rattle.layout.specs.declared.Datagram.{Datagram}
@@ -32,28 +32,28 @@ unfoldable pub text : ℕ → ℕ → Field (List ℕ)
 text w most = tagged length (only (λ n. n ≤? most) (num w)) (raw (λ x. true))
 
 unfoldable pub call : ℕ → Field CallText
-call w = held callText callOf (λ t. t .len ≤? 12) (text w 12)
+call w = through callText callBytes (λ t. t .len ≤? 12) (text w 12)
 
 unfoldable pub address : Field AddressText
-address = held addressText addressOf (λ t. t .len ≤? 45) (text 2 45)
+address = through addressText addressBytes (λ t. t .len ≤? 45) (text 2 45)
 
 unfoldable pub streamName : Field StreamText
-streamName = held streamText streamOf (λ t. t .len ≤? 255) (text 1 255)
+streamName = through streamText streamBytes (λ t. t .len ≤? 255) (text 1 255)
 
 -- an id: 7 hexadecimal digits
 unfoldable pub hexId : Field ℕ
-hexId = held hexValue (hexDigits 7) (λ v. v <? 2 ^ 28) (raw (isDigit 16) 7)
+hexId = through hexValue (hexDigits 7) (λ v. v <? 2 ^ 28) (raw (isDigit 16) 7)
 
 -- [1] hop count, then per hop [1] hop length, [N] hop callsign; 0 to 16 hops
 abbrev pub hopList : Field (List CallText)
 hopList = tagged length (only (λ n. n ≤? 16) (num 1)) (many (call 1))
 
 unfoldable pub hops : Field Hops
-hops = held hopArray hopsOf (λ h. h .count ≤? 16) hopList
+hops = through hopArray hopsOf (λ h. h .count ≤? 16) hopList
 
 -- [2] key length, [K] key, [2] value length, [V] value
 unfoldable pub header : Field Header
-header = held
+header = through
     (λ x. headerText (x .0) (x .1))
     (λ h. (keyOf h, valueOf h))
     (λ h. h .«key_len» ≤? 32 and h .«value_len» ≤? 128)
@@ -70,7 +70,7 @@ abbrev pub headerArray : List Header → Headers
 headerArray l = record { count = length l; items = front l (replicate 8 (headerText [] [])) }
 
 unfoldable pub headers : Field Headers
-headers = held headerArray headersOf (λ h. h .count ≤? 8) headerList
+headers = through headerArray headersOf (λ h. h .count ≤? 8) headerList
 
 -- ---- the flags
 
@@ -97,8 +97,8 @@ abbrev pub one : Bool → ℕ
 one b = if b then 1 else 0
 
 -- the number of which these are the bits
-unfoldable pub numberOf : Flags → ℕ
-numberOf f =
+unfoldable pub flagsNumber : Flags → ℕ
+flagsNumber f =
     one (f .salt)
     + (2 * one (f .ttl)
     + (4 * one (f .headers)
@@ -114,7 +114,7 @@ numberOf f =
 
 -- [2] flags; bits 10 to 15 must be clear
 unfoldable pub flags : Field Flags
-flags = held flagsOf numberOf (λ f. true) (only (λ v. v <? 2 ^ 10) (num 2))
+flags = through flagsOf flagsNumber (λ f. true) (only (λ v. v <? 2 ^ 10) (num 2))
 
 -- [7] id
 abbrev pub id : Field ℕ
@@ -262,7 +262,7 @@ parts = seq opening (λ o. seq (ends (o .0)) (λ e. seq (way (o .0)) (λ w. opti
 
 -- the fields before the payload length, whatever they say
 unfoldable pub layout : Field Datagram
-layout = held messageOf partsOf (λ m. true) parts
+layout = through messageOf partsOf (λ m. true) parts
 
 -- and those of a valid message
 unfoldable pub message : Field Datagram

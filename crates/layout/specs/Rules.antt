@@ -1,7 +1,7 @@
 -- Document 01, "The datagram": the rules of a message that a datagram carries. The line's rules hold for the fields that it shares.
 use mathlib.Core.Bool.{Bool}
 use Rattle.octets.specs.Words.{_and_, _≤?_, every}
-use Rattle.envelope.specs.Rules.{callIn, given, envelope}
+use Rattle.envelope.specs.Rules.{callIn, ifSet, envelope}
 use Rattle.layout.specs.declared.Hops.{Hops}
 use Rattle.layout.specs.declared.Datagram.{Datagram}
 use Rattle.layout.specs.Texts.{hopsOf}
@@ -14,6 +14,6 @@ hopsIn h = h .count ≤? 16 and every callIn (hopsOf h)
 unfoldable pub valid : Datagram → Bool
 valid m =
     envelope (m .fields)
-    and (given (m .«has_link») (callIn (m .link))
-    and (given (m .«has_route») (hopsIn (m .route))
-    and given (m .«has_hops») (hopsIn (m .hops))))
+    and (ifSet (m .«has_link») (callIn (m .link))
+    and (ifSet (m .«has_route») (hopsIn (m .route))
+    and ifSet (m .«has_hops») (hopsIn (m .hops))))

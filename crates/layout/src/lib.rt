@@ -3,7 +3,7 @@
 use envelope::CallText;
 use envelope::Envelope;
 ghost use mathlib.Core.Path.{_≡_};
-ghost use Rattle.envelope.specs.Rules.{callIn, given};
+ghost use Rattle.envelope.specs.Rules.{callIn, ifSet};
 ghost use Rattle.layout.specs.Rules.{hopsIn, valid};
 ghost use Rattle.layout.specs.Texts.{noHops, blankDatagram};
 
@@ -99,7 +99,7 @@ fn are_hops(h: Hops) -> bool
 
 // Where the flag is set, a callsign.
 fn link_rule(has: bool, link: CallText) -> bool
-    ensures { λ r. ⌜ r ≡ given has (callIn link) ⌝ }
+    ensures { λ r. ⌜ r ≡ ifSet has (callIn link) ⌝ }
 {
     if !has {
         return true;
@@ -109,7 +109,7 @@ fn link_rule(has: bool, link: CallText) -> bool
 
 // Where the flag is set, hops.
 fn hops_rule(has: bool, hops: Hops) -> bool
-    ensures { λ r. ⌜ r ≡ given has (hopsIn hops) ⌝ }
+    ensures { λ r. ⌜ r ≡ ifSet has (hopsIn hops) ⌝ }
 {
     if !has {
         return true;

@@ -13,7 +13,7 @@ use Rattle.headers.specs.Rule.{valueOf}
 use Rattle.headers.specs.declared.Header.{Header}
 use Rattle.headers.specs.declared.Headers.{Headers}
 use Rattle.crc16.specs.Crc.{crc16}
-use Rattle.envelope.specs.Rules.{callOf, addressOf, streamOf, envelope}
+use Rattle.envelope.specs.Rules.{callBytes, addressBytes, streamBytes, envelope}
 use Rattle.tokens.specs.Tokens.{Token, token, wordOf, spaced}
 use Rattle.line.specs.declared.Line.{Line}
 use Rattle.line_values.specs.Values.{slash}
@@ -43,10 +43,10 @@ choicesOf m =
     ∷ choice true keyFmt 'p'
     ∷ choice (m .fields .«has_salt») keyS (signedDecimal (m .fields .salt))
     ∷ choice (m .fields .«has_ttl») keyTtl (decimal (m .fields .ttl))
-    ∷ choice (m .fields .«has_src») keySrc (callOf (m .fields .src))
+    ∷ choice (m .fields .«has_src») keySrc (callBytes (m .fields .src))
     ∷ choice (m .fields .«has_fragment») keyMid (hexDigits 7 (m .fields .mid))
     ∷ choice (m .fields .«has_fragment») keyFrag (partText (m .fields .index) (m .fields .total))
-    ∷ choice (m .fields .«has_stream») keySid (streamOf (m .fields .sid))
+    ∷ choice (m .fields .«has_stream») keySid (streamBytes (m .fields .sid))
     ∷ choice (m .fields .«has_stream») keySn (decimal (m .fields .sn))
     ∷ choice (m .fields .«has_stream») keyGt (decimal (m .fields .gt))
     ∷ []
@@ -59,7 +59,7 @@ abbrev pub headerTokens : Headers → List Token
 headerTokens h = map headerToken (take (h .count) (h .items))
 
 abbrev pub dstToken : Line → Token
-dstToken m = token keyDst (addressOf (m .fields .dst))
+dstToken m = token keyDst (addressBytes (m .fields .dst))
 
 unfoldable pub tokensOf : Line → List Token
 tokensOf m = chosen (choicesOf m) ++ (headerTokens (m .fields .headers) ++ (dstToken m ∷ []))

@@ -33,7 +33,7 @@ use Rattle.crc16.specs.Crc.{crc16, start}
 use Rattle.crc16.proofs.Laws.{feed-lt}
 use Rattle.envelope.specs.declared.Envelope.{Envelope}
 use Rattle.envelope.specs.Texts.{callText, addressText, streamText, headerText}
-use Rattle.envelope.specs.Rules.{callOf, addressOf, streamOf, callIn, addressIn, streamIn, ttlIn, fragmentIn, idIn, envelope}
+use Rattle.envelope.specs.Rules.{callBytes, addressBytes, streamBytes, callIn, addressIn, streamIn, ttlIn, fragmentIn, idIn, envelope}
 use Rattle.envelope.specs.Tidy.{tidyHeader, tidyHeaders, tidy}
 use Rattle.tokens.specs.Cuts.{has, before, after}
 use Rattle.tokens.specs.Tokens.{Token, token, tokenOf, words, tokens, keys, given, value, others, lastOnly, keyed, wordOf, spaced, space, equals}
@@ -215,7 +215,7 @@ module _ (m : Line) (good : messageGood m ≡ true) (typed : Typed m) where
   unfolding ttlIn
   ttl-most b = leb-true (e .ttl) 2147483647 (and-right (1 ≤? e .ttl) _ (when-set (e .«has_ttl») (ttlIn (e .ttl)) (r .ttl-rule) b))
 
-  src-call : e .«has_src» ≡ true → callsign (callOf (e .src)) ≡ true
+  src-call : e .«has_src» ≡ true → callsign (callBytes (e .src)) ≡ true
   unfolding callIn
   src-call b = and-right (e .src .len ≤? 12) _ (when-set (e .«has_src») (callIn (e .src)) (r .src-rule) b)
 
@@ -229,14 +229,14 @@ module _ (m : Line) (good : messageGood m ≡ true) (typed : Typed m) where
   part-made : e .«has_fragment» ≡ true → PartMade (e .index) (e .total)
   part-made b = part-back (e .mid) (e .index) (e .total) (part-in b)
 
-  sid-visible : e .«has_stream» ≡ true → ruled true (streamOf (e .sid)) ≡ true
+  sid-visible : e .«has_stream» ≡ true → ruled true (streamBytes (e .sid)) ≡ true
   unfolding streamIn streamId idText
   sid-visible b =
-      let s = streamOf (e .sid) in
+      let s = streamBytes (e .sid) in
       let f = and-right (e .sid .len ≤? 255) _ (when-set (e .«has_stream») (streamIn (e .sid)) (r .stream-rule) b) in
       ruled-visible s (and-right (1 ≤? length s and length s ≤? 255) _ f)
 
-  dst-is : destination (addressOf (e .dst)) ≡ true
+  dst-is : destination (addressBytes (e .dst)) ≡ true
   unfolding addressIn
   dst-is = and-right (e .dst .len ≤? 45) _ (r .dst-rule)
 
@@ -247,10 +247,10 @@ module _ (m : Line) (good : messageGood m ≡ true) (typed : Typed m) where
       (and-both _ _ (choice-sound true keyFmt 'p' refl (λ b. refl))
       (and-both _ _ (choice-ascii (e .«has_salt») keyS (signedDecimal (e .salt)) refl (λ b. signed-ascii (e .salt)))
       (and-both _ _ (choice-ascii (e .«has_ttl») keyTtl (decimal (e .ttl)) refl (λ b. decimal-ascii (e .ttl)))
-      (and-both _ _ (choice-ascii (e .«has_src») keySrc (callOf (e .src)) refl (λ b. callsign-ascii (callOf (e .src)) (src-call b)))
+      (and-both _ _ (choice-ascii (e .«has_src») keySrc (callBytes (e .src)) refl (λ b. callsign-ascii (callBytes (e .src)) (src-call b)))
       (and-both _ _ (choice-ascii (e .«has_fragment») keyMid (hexDigits 7 (e .mid)) refl (λ b. hex-ascii 7 (e .mid)))
       (and-both _ _ (choice-ascii (e .«has_fragment») keyFrag (partText (e .index) (e .total)) refl (λ b. part-ascii (e .index) (e .total)))
-      (and-both _ _ (choice-sound (e .«has_stream») keySid (streamOf (e .sid)) refl sid-visible)
+      (and-both _ _ (choice-sound (e .«has_stream») keySid (streamBytes (e .sid)) refl sid-visible)
       (and-both _ _ (choice-ascii (e .«has_stream») keySn (decimal (e .sn)) refl (λ b. decimal-ascii (e .sn)))
       (and-both _ _ (choice-ascii (e .«has_stream») keyGt (decimal (e .gt)) refl (λ b. decimal-ascii (e .gt))) refl)))))))))
 
@@ -263,7 +263,7 @@ module _ (m : Line) (good : messageGood m ≡ true) (typed : Typed m) where
       every-append sound (chosen (choicesOf m)) (headerTokens (e .headers) ++ ends) (sound-chosen (choicesOf m) choices-sound)
       (every-append sound (headerTokens (e .headers)) ends
       (every-map header sound headerToken (λ h p. header-facts h p .0) items (each (e .headers) (typed .eight) (r .headers-rule)))
-      (and-both (sound (dstToken m)) _ (and-both (ruled false keyDst) _ refl (ascii-ruled (addressOf (e .dst)) (destination-ascii (addressOf (e .dst)) dst-is)))
+      (and-both (sound (dstToken m)) _ (and-both (ruled false keyDst) _ refl (ascii-ruled (addressBytes (e .dst)) (destination-ascii (addressBytes (e .dst)) dst-is)))
       (and-both (sound (chkToken (bodyOf m))) true (and-both (ruled false keyChk) _ refl (ascii-ruled (hexDigits 4 (crc16 (bodyOf m))) (hex-ascii 4 (crc16 (bodyOf m))))) refl)))
 
   all-some : 0 < length (allOf m)
@@ -285,7 +285,7 @@ module _ (m : Line) (good : messageGood m ≡ true) (typed : Typed m) where
   unfolding choicesOf reserved reservedKeys same given value
   v-fmt = find keyFmt refl
 
-  v-dst : value keyDst (allOf m) ≡ addressOf (e .dst)
+  v-dst : value keyDst (allOf m) ≡ addressBytes (e .dst)
   unfolding choicesOf reserved reservedKeys same given value
   v-dst = find keyDst refl
 
@@ -317,7 +317,7 @@ module _ (m : Line) (good : messageGood m ≡ true) (typed : Typed m) where
   unfolding choicesOf reserved reservedKeys same given
   g-ttl = look keyTtl refl ∙ flag-back (e .«has_ttl»)
 
-  v-src : value keySrc (allOf m) ≡ (if e .«has_src» then callOf (e .src) else [])
+  v-src : value keySrc (allOf m) ≡ (if e .«has_src» then callBytes (e .src) else [])
   unfolding choicesOf reserved reservedKeys same given value
   v-src = find keySrc refl
 
@@ -341,7 +341,7 @@ module _ (m : Line) (good : messageGood m ≡ true) (typed : Typed m) where
   unfolding choicesOf reserved reservedKeys same given
   g-frag = look keyFrag refl ∙ flag-back (e .«has_fragment»)
 
-  v-sid : value keySid (allOf m) ≡ (if e .«has_stream» then streamOf (e .sid) else [])
+  v-sid : value keySid (allOf m) ≡ (if e .«has_stream» then streamBytes (e .sid) else [])
   unfolding choicesOf reserved reservedKeys same given value
   v-sid = find keySid refl
 
@@ -383,7 +383,7 @@ module _ (m : Line) (good : messageGood m ≡ true) (typed : Typed m) where
   all-once =
       once-chosen (choicesOf m) (headerTokens (e .headers) ++ ends)
       (once-append (headerTokens (e .headers)) ends (ap allDiffer (keys-map items) ∙ differ (e .headers) (typed .eight) (r .headers-rule)) refl
-      (every-by free (apart ends) (free-apart (addressOf (e .dst)) (hexDigits 4 (crc16 (bodyOf m)))) (headerTokens (e .headers)) headers-free))
+      (every-by free (apart ends) (free-apart (addressBytes (e .dst)) (hexDigits 4 (crc16 (bodyOf m)))) (headerTokens (e .headers)) headers-free))
       (and-both _ _ (clear-behind keyLen refl refl)
       (and-both _ _ (clear-behind keyFmt refl refl)
       (and-both _ _ (clear-behind keyS refl refl)
@@ -480,7 +480,7 @@ module _ (m : Line) (good : messageGood m ≡ true) (typed : Typed m) where
         «has_ttl» = g-ttl i;
         ttl = (ap number v-ttl ∙ number-set (e .«has_ttl») (e .ttl) 2147483647 ttl-most) i;
         «has_src» = g-src i;
-        src = (ap callText v-src ∙ read-back callText (e .«has_src») (callOf (e .src)) (callText (callOf (e .src))) (callText []) (λ h. refl) refl) i;
+        src = (ap callText v-src ∙ read-back callText (e .«has_src») (callBytes (e .src)) (callText (callBytes (e .src))) (callText []) (λ h. refl) refl) i;
         «has_fragment» = g-mid i;
         mid = (ap hexValue v-mid ∙ read-back hexValue (e .«has_fragment») (hexDigits 7 (e .mid)) (e .mid) 0 (λ h. id-back (e .mid) (mid-in h)) refl) i;
         index = (ap (λ (v : List ℕ). number (before slash v)) v-frag
@@ -488,7 +488,7 @@ module _ (m : Line) (good : messageGood m ≡ true) (typed : Typed m) where
         total = (ap (λ (v : List ℕ). number (after slash v)) v-frag
             ∙ read-back (λ (v : List ℕ). number (after slash v)) (e .«has_fragment») (partText (e .index) (e .total)) (e .total) 0 (λ h. part-made h .last) refl) i;
         «has_stream» = g-sid i;
-        sid = (ap streamText v-sid ∙ read-back streamText (e .«has_stream») (streamOf (e .sid)) (streamText (streamOf (e .sid))) (streamText []) (λ h. refl) refl) i;
+        sid = (ap streamText v-sid ∙ read-back streamText (e .«has_stream») (streamBytes (e .sid)) (streamText (streamBytes (e .sid))) (streamText []) (λ h. refl) refl) i;
         sn = (ap number v-sn ∙ sn) i;
         gt = (ap number v-gt ∙ gt) i;
         headers = headers-back i;

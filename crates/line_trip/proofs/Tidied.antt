@@ -23,44 +23,44 @@ use Rattle.envelope.specs.declared.CallText.{CallText}
 use Rattle.envelope.specs.declared.AddressText.{AddressText}
 use Rattle.envelope.specs.declared.StreamText.{StreamText}
 use Rattle.envelope.specs.declared.Envelope.{Envelope}
-use Rattle.envelope.specs.Texts.{held, padded, zeros, callText, addressText, streamText, headerText}
-use Rattle.envelope.specs.Rules.{callOf, addressOf, streamOf, callIn, addressIn, streamIn, idIn, ttlIn, fragmentIn, envelope}
+use Rattle.envelope.specs.Texts.{fitted, padded, zeros, callText, addressText, streamText, headerText}
+use Rattle.envelope.specs.Rules.{callBytes, addressBytes, streamBytes, callIn, addressIn, streamIn, idIn, ttlIn, fragmentIn, envelope}
 use Rattle.envelope.specs.Tidy.{tidyHeader, tidyHeaders, tidy, behind}
 
 -- ---- a text that its array can hold
 
 module _ (n : ℕ) (s : List ℕ) (h : length s ≤ n) where
-  held-is : held n s ≡ s
-  unfolding held
+  held-is : fitted n s ≡ s
+  unfolding fitted
   held-is = if-yes _ _ _ (le-leb (length s) n h)
 
-  held-long : (length (held n s) ≤? n) ≡ true
-  held-long = le-leb (length (held n s)) n (omega (arith, ap length held-is))
+  held-long : (length (fitted n s) ≤? n) ≡ true
+  held-long = le-leb (length (fitted n s)) n (omega (arith, ap length held-is))
 
-  held-back : take (length (held n s)) (padded n (held n s)) ≡ s
+  held-back : take (length (fitted n s)) (padded n (fitted n s)) ≡ s
   unfolding padded
   held-back = ap (λ (w : List ℕ). take (length w) (front w (zeros n))) held-is ∙ take-at s (drop (length s) (zeros n)) (length s) refl
 
-call-tidy : (t : CallText) → callIn t ≡ true → callIn (callText (callOf t)) ≡ true
+call-tidy : (t : CallText) → callIn t ≡ true → callIn (callText (callBytes t)) ≡ true
 unfolding callIn
 call-tidy t e =
     let f = and-right (t .len ≤? 12) _ e in
-    let h = callsign-short (callOf t) f in
-    and-both (length (held 12 (callOf t)) ≤? 12) _ (held-long 12 (callOf t) h) (ap callsign (held-back 12 (callOf t) h) ∙ f)
+    let h = callsign-short (callBytes t) f in
+    and-both (length (fitted 12 (callBytes t)) ≤? 12) _ (held-long 12 (callBytes t) h) (ap callsign (held-back 12 (callBytes t) h) ∙ f)
 
-address-tidy : (t : AddressText) → addressIn t ≡ true → addressIn (addressText (addressOf t)) ≡ true
+address-tidy : (t : AddressText) → addressIn t ≡ true → addressIn (addressText (addressBytes t)) ≡ true
 unfolding addressIn
 address-tidy t e =
     let f = and-right (t .len ≤? 45) _ e in
-    let h = destination-short (addressOf t) f in
-    and-both (length (held 45 (addressOf t)) ≤? 45) _ (held-long 45 (addressOf t) h) (ap destination (held-back 45 (addressOf t) h) ∙ f)
+    let h = destination-short (addressBytes t) f in
+    and-both (length (fitted 45 (addressBytes t)) ≤? 45) _ (held-long 45 (addressBytes t) h) (ap destination (held-back 45 (addressBytes t) h) ∙ f)
 
-stream-tidy : (t : StreamText) → streamIn t ≡ true → streamIn (streamText (streamOf t)) ≡ true
+stream-tidy : (t : StreamText) → streamIn t ≡ true → streamIn (streamText (streamBytes t)) ≡ true
 unfolding streamIn
 stream-tidy t e =
     let f = and-right (t .len ≤? 255) _ e in
-    let h = streamId-short (streamOf t) f in
-    and-both (length (held 255 (streamOf t)) ≤? 255) _ (held-long 255 (streamOf t) h) (ap streamId (held-back 255 (streamOf t) h) ∙ f)
+    let h = streamId-short (streamBytes t) f in
+    and-both (length (fitted 255 (streamBytes t)) ≤? 255) _ (held-long 255 (streamBytes t) h) (ap streamId (held-back 255 (streamBytes t) h) ∙ f)
 
 -- ---- headers
 
@@ -87,8 +87,8 @@ module _ (h : Header) (e : header h ≡ true) where
   unfolding header
   header-tidy =
       let g = good-header h e in
-      and-both (length (held 32 (keyOf h)) ≤? 32) _ (held-long 32 (keyOf h) (headerKey-short (keyOf h) (g .good-key)))
-      (and-both (length (held 128 (valueOf h)) ≤? 128) _ (held-long 128 (valueOf h) (headerValue-short (valueOf h) (g .good-value)))
+      and-both (length (fitted 32 (keyOf h)) ≤? 32) _ (held-long 32 (keyOf h) (headerKey-short (keyOf h) (g .good-key)))
+      (and-both (length (fitted 128 (valueOf h)) ≤? 128) _ (held-long 128 (valueOf h) (headerValue-short (valueOf h) (g .good-value)))
       (and-both (headerKey (keyOf (tidyHeader h))) _ (ap headerKey key-tidy ∙ g .good-key) (ap headerValue value-tidy ∙ g .good-value)))
 
 items-tidy : (l : List Header) → every header l ≡ true → every header (map tidyHeader l) ≡ true
@@ -171,10 +171,10 @@ envelope-tidy e room h =
     let r = rules-of e h in
     and-both (idIn (e .id)) _ (r .id-rule)
     (and-both (if e .«has_ttl» then ttlIn (behind (e .«has_ttl») (e .ttl)) else true) _ (set-tidy ttlIn (e .«has_ttl») (e .ttl) (e .ttl) 0 (λ x. x) (r .ttl-rule))
-    (and-both (if e .«has_src» then callIn (if e .«has_src» then callText (callOf (e .src)) else callText []) else true) _
-    (set-tidy callIn (e .«has_src») (e .src) (callText (callOf (e .src))) (callText []) (call-tidy (e .src)) (r .src-rule))
+    (and-both (if e .«has_src» then callIn (if e .«has_src» then callText (callBytes (e .src)) else callText []) else true) _
+    (set-tidy callIn (e .«has_src») (e .src) (callText (callBytes (e .src))) (callText []) (call-tidy (e .src)) (r .src-rule))
     (and-both (if e .«has_fragment» then fragmentIn (behind (e .«has_fragment») (e .mid)) (behind (e .«has_fragment») (e .index)) (behind (e .«has_fragment») (e .total)) else true) _
     (part-tidy (e .«has_fragment») (e .mid) (e .index) (e .total) (r .fragment-rule))
-    (and-both (if e .«has_stream» then streamIn (if e .«has_stream» then streamText (streamOf (e .sid)) else streamText []) else true) _
-    (set-tidy streamIn (e .«has_stream») (e .sid) (streamText (streamOf (e .sid))) (streamText []) (stream-tidy (e .sid)) (r .stream-rule))
+    (and-both (if e .«has_stream» then streamIn (if e .«has_stream» then streamText (streamBytes (e .sid)) else streamText []) else true) _
+    (set-tidy streamIn (e .«has_stream») (e .sid) (streamText (streamBytes (e .sid))) (streamText []) (stream-tidy (e .sid)) (r .stream-rule))
     (and-both (headers (tidyHeaders (e .headers))) _ (headers-tidy (e .headers) room (r .headers-rule)) (address-tidy (e .dst) (r .dst-rule)))))))

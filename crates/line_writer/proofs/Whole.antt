@@ -16,7 +16,7 @@ use Rattle.text.specs.Decimal.{decimal, signedDecimal}
 use Rattle.text.specs.Hex.{hexDigits}
 use Rattle.names.specs.Reserved.{keyLen, keyFmt, keyS, keyChk, keyTtl, keySrc, keyMid, keyFrag, keySid, keySn, keyGt}
 use Rattle.crc16.specs.Crc.{crc16}
-use Rattle.envelope.specs.Rules.{callOf, streamOf, envelope}
+use Rattle.envelope.specs.Rules.{callBytes, streamBytes, envelope}
 use Rattle.tokens.specs.Tokens.{Token, wordOf, spaced, space}
 use Rattle.line_groups.specs.Rules.{'p'}
 use Rattle.line.specs.Reading.{ihave}
@@ -54,7 +54,7 @@ module _ (m : Line) where
   ttl = choice (m .fields .«has_ttl») keyTtl (decimal (m .fields .ttl)) ∷ []
 
   abbrev src : List Choice
-  src = choice (m .fields .«has_src») keySrc (callOf (m .fields .src)) ∷ []
+  src = choice (m .fields .«has_src») keySrc (callBytes (m .fields .src)) ∷ []
 
   abbrev fragment : List Choice
   fragment =
@@ -64,7 +64,7 @@ module _ (m : Line) where
 
   abbrev stream : List Choice
   stream =
-      choice (m .fields .«has_stream») keySid (streamOf (m .fields .sid))
+      choice (m .fields .«has_stream») keySid (streamBytes (m .fields .sid))
       ∷ choice (m .fields .«has_stream») keySn (decimal (m .fields .sn))
       ∷ choice (m .fields .«has_stream») keyGt (decimal (m .fields .gt))
       ∷ []

@@ -13,7 +13,7 @@ ghost use Prim.Native.Nat.{_≤_, min};
 ghost use Rattle.text.specs.Decimal.{decimal, signedDecimal};
 ghost use Rattle.text.specs.Hex.{hexDigits};
 ghost use Rattle.names.specs.Reserved.{keyLen, keyFmt, keyS, keyDst, keyTtl, keySrc, keyMid, keyFrag, keySid, keySn, keyGt};
-ghost use Rattle.envelope.specs.Rules.{callOf, addressOf, streamOf};
+ghost use Rattle.envelope.specs.Rules.{callBytes, addressBytes, streamBytes};
 ghost use Rattle.tokens.specs.Tokens.{token};
 ghost use Rattle.line_groups.specs.Rules.{'p'};
 ghost use Rattle.line.specs.Writing.{choice, chosen, partText, headerToken, headerTokens};
@@ -55,7 +55,7 @@ pub(crate) fn ttl(d: Draft, on: bool, ttl: u32) -> Draft
 }
 
 pub(crate) fn src(d: Draft, on: bool, t: CallText) -> Draft
-    ensures { λ r. ⌜ r ≡ addTokens (chosen (choice on keySrc (callOf t) ∷ [])) d ⌝ }
+    ensures { λ r. ⌜ r ≡ addTokens (chosen (choice on keySrc (callBytes t) ∷ [])) d ⌝ }
 {
     if !on {
         return d;
@@ -76,7 +76,7 @@ pub(crate) fn fragment(d: Draft, on: bool, mid: u32, index: u16, total: u16) -> 
 }
 
 pub(crate) fn stream(d: Draft, on: bool, sid: StreamText, sn: u32, gt: u32) -> Draft
-    ensures { λ r. ⌜ r ≡ addTokens (chosen (choice on keySid (streamOf sid) ∷ choice on keySn (decimal sn) ∷ choice on keyGt (decimal gt) ∷ [])) d ⌝ }
+    ensures { λ r. ⌜ r ≡ addTokens (chosen (choice on keySid (streamBytes sid) ∷ choice on keySn (decimal sn) ∷ choice on keyGt (decimal gt) ∷ [])) d ⌝ }
 {
     if !on {
         return d;
@@ -114,7 +114,7 @@ pub(crate) fn headers(d: Draft, h: Headers) -> Draft
 }
 
 pub(crate) fn dst(d: Draft, t: AddressText) -> Draft
-    ensures { λ r. ⌜ r ≡ addTokens (token keyDst (addressOf t) ∷ []) d ⌝ }
+    ensures { λ r. ⌜ r ≡ addTokens (token keyDst (addressBytes t) ∷ []) d ⌝ }
 {
     let n = at_most(t.len, 45);
     let bytes = t.bytes;

@@ -14,9 +14,10 @@ use mir.ValLaws.{ofZ-toZ, toZ-fits}
 use borrow.Author.Tests.{ltb-true, leb-true, eqb-true, lt-ltb, le-leb, lt-leb, eq-eqb}
 use Rattle.octets.specs.Words.{if_then_else_, _and_, every, _≤?_, _=?_, _<?_}
 use Rattle.octets.specs.Bytes.{Bytes}
-use Rattle.octets.specs.Numbers.{little, littleBytes, twos, signed}
-use Rattle.octets.specs.Field.{Res, bad, got, bind, Field, num, raw, only, when, seq, tagged, held, manyParse, manyPrint, many, inArray, signedNum}
+use Rattle.octets.specs.Numbers.{little, littleBytes, twos, fromTwos}
+use Rattle.octets.specs.Field.{Res, bad, got, bind, Field, num, raw, only, when, seq, tagged, through, manyParse, manyPrint, many, signedNum}
 use Rattle.octets.proofs.Tests.{if-yes, if-no, and-left, and-right, and-both}
+use Rattle.octets.proofs.SignLaws.{bits64, twos-kit, from-kit}
 use Rattle.octets.proofs.NumberLaws.{length-bytes, read-written, little-less, written-read, bytes-drop, bytes-take}
 
 -- what a successful read says: the value is good and tidy, and the bytes that it took are those it would be written as
@@ -219,9 +220,9 @@ tagged-laws key F G told plain lf lg = record {
 }
 
 -- what was read comes back out of the way in which it is held
-pub held-laws : {A B : Type 0} (to : A → B) (from : B → A) (holds : B → Bool) (F : Field A)
-    → ((a : A) → F .ok a ≡ true → (from (to a) ≡ a) × (holds (to a) ≡ true)) → Laws F → Laws (held to from holds F)
-held-laws to from holds F out lf = record {
+pub through-laws : {A B : Type 0} (to : A → B) (from : B → A) (holds : B → Bool) (F : Field A)
+    → ((a : A) → F .ok a ≡ true → (from (to a) ≡ a) × (holds (to a) ≡ true)) → Laws F → Laws (through to from holds F)
+through-laws to from holds F out lf = record {
   back = λ b t h. rw (lf .back (from b) t (and-right (holds b) _ h));
   forth = λ s b n hs e.
       let b1 = bound (F .parse s) (λ a n. got (to a) n) b n e in
@@ -229,7 +230,7 @@ held-laws to from holds F out lf = record {
       let eb : b ≡ to (b1 .val) = cc in
       let en : n ≡ b1 .used = cc in
       let w = out (b1 .val) (r .good) in
-      moved (held to from holds F) s b (to (b1 .val)) n (b1 .used) eb en (record {
+      moved (through to from holds F) s b (to (b1 .val)) n (b1 .used) eb en (record {
         good = and-both _ _ (w .1) (rw (w .0) (r .good));
         tidied = rw (w .0, r .tidied);
         size = r .size ∙ ap (λ a. length (F .print a)) (sym (w .0));
@@ -285,20 +286,17 @@ many-laws F k lf = record {
   room = λ s l n e. many-room F lf k s l n e;
 }
 
-pub inArray-laws : {A : Type 0} (max : ℕ) (blank : A) (F : Field (List A)) → ((l : List A) → F .ok l ≡ true → length l ≤ max) → Laws F → Laws (inArray max blank F)
-inArray-laws max blank F short lf = held-laws _ _ (λ x. x .0 ≤? max) F (λ l h. (take-append-seam l _, le-leb _ _ (short l h))) lf
-
 -- ---- a signed number
 
 pub signed-laws : Laws signedNum
-signed-laws = held-laws signed twos (λ z. mag z <? 2 ^ 63) (num 8)
+signed-laws = through-laws fromTwos twos (λ z. mag z <? 2 ^ 63) (num 8)
     (λ v h.
     let f : Fits w64 v = record { fits = ltb-true v (256 ^ 8) h } in
-    (ofZ-toZ w64 v f, lt-ltb _ _ (toZ-fits w64 v f .sfits)))
+    (twos-kit (fromTwos v) ∙ ap bits64 (from-kit v) ∙ ofZ-toZ w64 v f, ap (λ z. mag z <? 2 ^ 63) (from-kit v) ∙ lt-ltb _ _ (toZ-fits w64 v f .sfits)))
     (num-laws 8)
 
 pub signed-short : (s : List ℕ) → length s < 8 → signedNum .parse s ≡ bad
 signed-short s h = rw (num-short 8 s h)
 
-pub signed-read : (s : List ℕ) (v : ℕ) → 8 ≤ length s → v ≡ little (take 8 s) → signedNum .parse s ≡ got (signed v) 8
+pub signed-read : (s : List ℕ) (v : ℕ) → 8 ≤ length s → v ≡ little (take 8 s) → signedNum .parse s ≡ got (fromTwos v) 8
 signed-read s v h e = rw (num-read 8 s v h e)

@@ -42,6 +42,10 @@ or-left a b e = rw e
 pub or-next : (a b : Bool) → a ≡ false → a or b ≡ b
 or-next a b e = rw e
 
+pub or-no : (a b : Bool) → a or b ≡ false → (a ≡ false) × (b ≡ false)
+or-no true b e = true-not-false true refl e
+or-no false b e = (refl, e)
+
 pub no-true : (t : Bool) → t ≡ true → no t ≡ false
 no-true t e = rw e
 

@@ -3,11 +3,15 @@ use Prim.Native.Nat.{ℕ, _+_, _<_}
 use mathlib.Core.Bool.{Bool, true, false}
 use mathlib.Core.List.{List, [], _∷_, _++_}
 use lib.ListN.{length, take, drop, getD}
-use Rattle.octets.specs.Words.{if_then_else_, _and_, _≤?_, _=?_}
+use Rattle.octets.specs.Words.{if_then_else_, _and_, every, _≤?_, _=?_}
 
 -- every number of the list is a byte
 abbrev pub Bytes : List ℕ → Type 0
 Bytes s = (i : ℕ) → getD s i 0 < 256
+
+-- every byte is 0
+abbrev pub allZero : List ℕ → Bool
+allZero s = every (λ b. b =? 0) s
 
 -- two texts are the same: byte for byte, and neither goes on
 unfoldable pub same : List ℕ → List ℕ → Bool

@@ -3,12 +3,11 @@
 use Prim.Native.Nat.{ℕ, zero, suc, _+_, _^_}
 use mathlib.Core.List.{List, [], _∷_, _++_, map}
 use mathlib.Core.Bool.{Bool, true, false}
-use lib.ListN.{length, take, drop, replicate}
+use lib.ListN.{length, take, drop}
 use lib.IntN.{ℤ}
 use lib.Signed.{mag}
 use Rattle.octets.specs.Words.{if_then_else_, _and_, every, _<?_, _≤?_, _=?_}
-use Rattle.octets.specs.Bytes.{front}
-use Rattle.octets.specs.Numbers.{little, littleBytes, twos, signed}
+use Rattle.octets.specs.Numbers.{little, littleBytes, twos, fromTwos}
 
 -- what reading finds: a value with the number of bytes that it took, or nothing
 pub data Res (A : Type 0) : Type 0 where
@@ -77,8 +76,8 @@ tagged key F G = record {
 }
 
 -- the same field, its value held another way; only what passes `holds` is good
-abbrev pub held : {A B : Type 0} → (A → B) → (B → A) → (B → Bool) → Field A → Field B
-held to from holds F = record {
+abbrev pub through : {A B : Type 0} → (A → B) → (B → A) → (B → Bool) → Field A → Field B
+through to from holds F = record {
   parse = λ s. bind (F .parse s) (λ a n. got (to a) n);
   print = λ b. F .print (from b);
   ok = λ b. holds b and F .ok (from b);
@@ -102,14 +101,6 @@ many F k = record {
   tidy = map (F .tidy);
 }
 
--- a list of at most `max` values, held as its length and an array of `max` values, of which those past the length do not count
-abbrev pub inArray : {A : Type 0} → ℕ → A → Field (List A) → Field (ℕ × List A)
-inArray max blank F = held
-    (λ l. (length l, front l (replicate max blank)))
-    (λ x. take (x .0) (x .1))
-    (λ x. x .0 ≤? max)
-    F
-
 -- a signed number in eight bytes
 abbrev pub signedNum : Field ℤ
-signedNum = held signed twos (λ z. mag z <? 2 ^ 63) (num 8)
+signedNum = through fromTwos twos (λ z. mag z <? 2 ^ 63) (num 8)

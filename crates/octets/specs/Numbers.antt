@@ -1,9 +1,8 @@
 -- Little-endian numbers: the number that bytes spell, and the bytes of a number, at every width.
-use Prim.Native.Nat.{ℕ, zero, suc, _+_, _*_, _/_, _%_}
+use Prim.Native.Nat.{ℕ, zero, suc, _+_, _-_, _*_, _/_, _%_, _^_}
 use mathlib.Core.List.{List, [], _∷_}
-use lib.IntN.{ℤ}
-use mir.Syntax.{w64}
-use mir.Val.{toZ, ofZ}
+use lib.IntN.{ℤ, pos, negsuc}
+use Rattle.octets.specs.Words.{if_then_else_, _<?_}
 
 -- the number that the bytes spell, the lowest byte first
 unfoldable pub little : List ℕ → ℕ
@@ -15,9 +14,11 @@ unfoldable pub littleBytes : ℕ → ℕ → List ℕ
 littleBytes zero v = []
 littleBytes (suc w) v = v % 256 ∷ littleBytes w (v / 256)
 
--- two's complement in 64 bits: the bits of a signed number, and the signed number of the bits
+-- two's complement in 64 bits: the bits of a signed number, which from -1 (`negsuc 0`) down count down from all ones
 abbrev pub twos : ℤ → ℕ
-twos z = ofZ w64 z
+twos (pos n) = n
+twos (negsuc n) = 2 ^ 64 - suc n
 
-abbrev pub signed : ℕ → ℤ
-signed v = toZ w64 v
+-- and the signed number of the bits
+abbrev pub fromTwos : ℕ → ℤ
+fromTwos v = if v <? 2 ^ 63 then pos v else negsuc (2 ^ 64 - suc v)

@@ -14,6 +14,13 @@ One n ps r P =
     (κs : Lfts n) (a : Dens κs ps) (x y : resT r κs .Denot) (v w : Lasts (endedOf n ps r) κs a)
     → P κs a x (atExit (endedOf n ps r) κs a v) → P κs a y (atExit (endedOf n ps r) κs a w) → (x ≡ y) × (v ≡ w)
 
+-- the same of a function that returns a part of what it was lent: any two outcomes coincide in what is seen of the result
+-- (where a part lies in memory is no part of an outcome)
+abbrev pub OneSeen : (n : ℕ) (ps : List (PK n)) (r : RK n) {B : Type 0} → ((κs : Lfts n) → resT r κs .Denot → B) → Out n ps r → Type 0
+OneSeen n ps r see P =
+    (κs : Lfts n) (a : Dens κs ps) (x y : resT r κs .Denot) (v w : Lasts (endedOf n ps r) κs a)
+    → P κs a x (atExit (endedOf n ps r) κs a v) → P κs a y (atExit (endedOf n ps r) κs a w) → (see κs x ≡ see κs y) × (v ≡ w)
+
 -- the contract has no `requires`
 abbrev pub Free : (n : ℕ) (ps : List (PK n)) → In n ps → Type 0
 Free n ps P = (κs : Lfts n) (a : Dens κs ps) → P κs a

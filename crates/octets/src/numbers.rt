@@ -2,7 +2,7 @@
 ghost use mathlib.Core.Path.{_≡_};
 ghost use Prim.Native.Nat.{_^_, _<_, _≤_};
 ghost use lib.ListN.{length, take};
-ghost use Rattle.octets.specs.Numbers.{little, twos, signed};
+ghost use Rattle.octets.specs.Numbers.{little, twos, fromTwos};
 
 fn wide(x: u8) -> u64
     ensures { λ r. ⌜ (r ≡ x) × (r < 256) ⌝ }
@@ -26,7 +26,7 @@ pub(crate) fn gather(s: &[u8], w: usize) -> u64
 
 // Two's complement: from -1 down the bits count down from all ones.
 pub(crate) fn to_signed(v: u64) -> i64
-    ensures { λ r. ⌜ r ≡ signed v ⌝ }
+    ensures { λ r. ⌜ r ≡ fromTwos v ⌝ }
 {
     if v < 9223372036854775808 {
         v as i64

@@ -13,7 +13,7 @@ use Rattle.octets.specs.Numbers.{littleBytes}
 use Rattle.octets.specs.Field.{num, raw, only, seq, many, manyPrint}
 use Rattle.octets.proofs.Tests.{and-left, and-right, and-both}
 use Rattle.octets.proofs.NumberLaws.{length-bytes}
-use Rattle.octets.proofs.FieldLaws.{Laws, num-laws, raw-laws, only-laws, seq-laws, tagged-laws, held-laws, many-laws}
+use Rattle.octets.proofs.FieldLaws.{Laws, num-laws, raw-laws, only-laws, seq-laws, tagged-laws, through-laws, many-laws}
 use Rattle.callsigns.specs.Callsign.{callsign}
 use Rattle.callsigns.proofs.Lengths.{callsign-short}
 use Rattle.names.specs.Texts.{streamId}
@@ -83,7 +83,7 @@ pair-is o s a b e f = cc
 
 pub key-laws : Laws key
 unfolding key
-key-laws = held-laws (λ x. keyOf (x .0) (x .1)) (λ k. (originatorOf k, streamIdOf k)) keepsKey names
+key-laws = through-laws (λ x. keyOf (x .0) (x .1)) (λ k. (originatorOf k, streamIdOf k)) keepsKey names
     (λ x e.
     let v = names-right x e in
     (pair-is _ _ (x .0) (x .1) (originator-back (x .0) (x .1)) (id-back (x .0) (x .1)), key-keeps (x .0) (x .1) (v .0) (v .1)))
@@ -106,7 +106,7 @@ module _ (k : Key) (e : keepsKey k ≡ true) where
 
 pub message-laws : Laws message
 unfolding message
-message-laws = held-laws _ _ (λ m. true) _ (λ a e. (refl, refl))
+message-laws = through-laws _ _ (λ m. true) _ (λ a e. (refl, refl))
     (seq-laws (num 4) _ (λ a e. refl) (num-laws 4) (λ n. seq-laws (num 4) _ (λ a e. refl) (num-laws 4) (λ t. num-laws 4)))
 
 pub messages-laws : Laws messages
@@ -115,7 +115,7 @@ messages-laws = tagged-laws length (only (λ n. n ≤? 16) (num 1)) (many messag
     (only-laws (λ n. n ≤? 16) (num 1) (λ a e. refl) (num-laws 1)) (λ n. many-laws message n message-laws)
 
 stream-laws : Laws stream
-stream-laws = held-laws _ _ (λ s. true) _ (λ a e. (refl, refl))
+stream-laws = through-laws _ _ (λ s. true) _ (λ a e. (refl, refl))
     (seq-laws (num 8) _ (λ a e. refl) (num-laws 8) (λ e. seq-laws (num 4) _ (λ a e. refl) (num-laws 4) (λ c. seq-laws (num 4) _ (λ a e. refl) (num-laws 4) (λ g. messages-laws))))
 
 -- messages are tidy as they are
@@ -130,7 +130,7 @@ stream-tidy s = ap {B = Stream} (λ (l : List Held). record { expected = s .expe
 
 pub row-laws : Laws row
 unfolding row
-row-laws = held-laws rowOf streamOf keepsRow (only keeps stream)
+row-laws = through-laws rowOf streamOf keepsRow (only keeps stream)
     (λ s e. (unpacks s, keeps-row s (and-right (stream .ok s) _ e)))
     (only-laws keeps stream (λ s e. ap keeps (stream-tidy s)) stream-laws)
 

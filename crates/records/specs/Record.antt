@@ -4,7 +4,7 @@ use mathlib.Core.Bool.{true, false}
 use mathlib.Core.List.{List}
 use lib.ListN.{length}
 use Rattle.octets.specs.Words.{_and_, _≤?_}
-use Rattle.octets.specs.Field.{Res, bad, got, Field, num, raw, only, seq, tagged, held, many}
+use Rattle.octets.specs.Field.{Res, bad, got, Field, num, raw, only, seq, tagged, through, many}
 use Rattle.callsigns.specs.Callsign.{callsign}
 use Rattle.names.specs.Texts.{streamId}
 use Rattle.keys.specs.declared.Key.{Key}
@@ -27,12 +27,12 @@ names = only (λ x. callsign (x .0) and streamId (x .1)) (seq text (λ originato
 
 -- the key of the two
 unfoldable pub key : Field Key
-key = held (λ x. keyOf (x .0) (x .1)) (λ k. (originatorOf k, streamIdOf k)) keepsKey names
+key = through (λ x. keyOf (x .0) (x .1)) (λ k. (originatorOf k, streamIdOf k)) keepsKey names
 
 -- ---- expected (8 bytes), clock (4), gap start (4), held count (1), then number, timeout, slip (4 each)
 
 unfoldable pub message : Field Held
-message = held
+message = through
     (λ x. record { number = x .0; timeout = x .1 .0; slip = x .1 .1 })
     (λ m. (m .number, (m .timeout, m .slip)))
     (λ m. true)
@@ -43,7 +43,7 @@ unfoldable pub messages : Field (List Held)
 messages = tagged length (only (λ n. n ≤? 16) (num 1)) (many message)
 
 abbrev pub stream : Field Stream
-stream = held
+stream = through
     (λ x. record { expected = x .0; clock = x .1 .0; gapStart = x .1 .1 .0; held = x .1 .1 .1 })
     (λ s. (s .expected, (s .clock, (s .gapStart, s .held))))
     (λ s. true)
@@ -51,7 +51,7 @@ stream = held
 
 -- a row that keeps its rules
 unfoldable pub row : Field Row
-row = held rowOf streamOf keepsRow (only keeps stream)
+row = through rowOf streamOf keepsRow (only keeps stream)
 
 -- THE RECORD of an open row: its key, then the row
 unfoldable pub body : Field (Key × Row)

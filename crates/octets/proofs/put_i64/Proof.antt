@@ -3,7 +3,7 @@ use mathlib.Core.Path.{ap, _∙_}
 use borrow.Author.Needs.{needs}
 use mir.Syntax.{w64}
 use mir.ValLaws.{toZ-ofZ}
-use Rattle.octets.specs.Numbers.{littleBytes, twos, signed}
+use Rattle.octets.specs.Numbers.{littleBytes, twos}
 use Rattle.octets.specs.Bytes.{fits, placed}
 use Rattle.octets.proofs.put_i64.Statement.{statement}
 use Rattle.octets.proofs.put_i64.Tie as tie

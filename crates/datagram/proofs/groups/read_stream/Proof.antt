@@ -5,7 +5,7 @@ use borrow.Author.Needs.{needs}
 use borrow.Author.Tests.{not-true, not-false}
 use Rattle.octets.specs.Words.{_and_}
 use Rattle.octets.specs.Field.{num}
-use Rattle.envelope.specs.Texts.{streamText, held, padded}
+use Rattle.envelope.specs.Texts.{streamText, fitted, padded}
 use Rattle.layout.specs.Layout.{streamName, stream}
 use Rattle.datagram.proofs.Spans.{when-no, when-yes}
 use Rattle.datagram.proofs.Chains.{three-found}
@@ -13,7 +13,7 @@ use Rattle.datagram.proofs.groups.read_stream.Statement.{statement}
 use Rattle.datagram.proofs.groups.read_stream.Tie as tie
 
 returns : tie.Need-returns
-unfolding padded held
+unfolding padded fitted
 returns c =
     let at-args = c .before .before .args in
     when-no (at-args .has) (streamText [], (0, 0)) stream (at-args .d .now) _ (not-true _ (c .if1 .taken)) refl

@@ -3,14 +3,14 @@ use mathlib.Core.Path.{refl}
 use mathlib.Core.List.{[]}
 use borrow.Author.Needs.{needs}
 use borrow.Author.Tests.{not-true, not-false}
-use Rattle.envelope.specs.Texts.{callText, held, padded}
+use Rattle.envelope.specs.Texts.{callText, fitted, padded}
 use Rattle.layout.specs.Layout.{text, call}
 use Rattle.datagram.proofs.Spans.{found-as, text-found, when-no, when-yes}
 use Rattle.datagram.proofs.texts.read_call.Statement.{statement}
 use Rattle.datagram.proofs.texts.read_call.Tie as tie
 
 returns : tie.Need-returns
-unfolding padded held
+unfolding padded fitted
 returns c =
     let at-args = c .before .before .args in
     when-no (at-args .has) (callText []) (call 2) (at-args .d .now) _ (not-true _ (c .if1 .taken)) refl

@@ -1,12 +1,12 @@
 -- The weights of the bits that are set.
 use native.Mathlib.Omega.{arith}
 use borrow.Author.Needs.{needs}
-use Rattle.layout.specs.Layout.{numberOf}
+use Rattle.layout.specs.Layout.{flagsNumber}
 use Rattle.datagram_writer.proofs.numbers.number_of.Statement.{statement}
 use Rattle.datagram_writer.proofs.numbers.number_of.Tie as tie
 
 returns : tie.Need-returns
-unfolding numberOf
+unfolding flagsNumber
 returns c =
     let at-bit = c .before .before .before .before .before .before .before .before .before .bit in
     let at-bit2 = c .before .before .before .before .before .before .before .before .bit2 in

@@ -8,7 +8,7 @@ use Prim.Native.Nat.{ℕ}
 use mathlib.Core.List.{List}
 use Rattle.names.specs.Reserved.{keyDst}
 use Rattle.headers.proofs.Cuts.{part-cut}
-use Rattle.envelope.specs.Rules.{addressOf}
+use Rattle.envelope.specs.Rules.{addressBytes}
 use Rattle.tokens.specs.Tokens.{token}
 use Rattle.line_writer.specs.Steps.{added}
 use Rattle.line_writer.proofs.parts.dst.Statement.{statement}
@@ -28,7 +28,7 @@ returns c =
     let at-args = c .before .before .before .before .before .before .before .args in
     let at-at-most = c .before .before .before .before .before .before .at-most in
     let at-start = c .before .before .before .before .before .before .before in
-    c .put2 .ensures ∙ ap (λ (w : List ℕ). added w (at-put .result)) (part-cut (at-args .t .len) 45 (at-at-most .result) (at-args .t .bytes) (at-at-most .ensures .0) (long at-start)) ∙ ap (added (addressOf (at-args .t))) (at-put .ensures) ∙ one-token (token keyDst (addressOf (at-args .t))) (at-args .d)
+    c .put2 .ensures ∙ ap (λ (w : List ℕ). added w (at-put .result)) (part-cut (at-args .t .len) 45 (at-at-most .result) (at-args .t .bytes) (at-at-most .ensures .0) (long at-start)) ∙ ap (added (addressBytes (at-args .t))) (at-put .ensures) ∙ one-token (token keyDst (addressBytes (at-args .t))) (at-args .d)
 
 pub dst-spec : {M : Type 1} → statement M
 dst-spec =

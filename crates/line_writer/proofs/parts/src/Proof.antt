@@ -9,7 +9,7 @@ use Prim.Native.Nat.{ℕ}
 use mathlib.Core.List.{List}
 use Rattle.names.specs.Reserved.{keySrc}
 use Rattle.headers.proofs.Cuts.{part-cut}
-use Rattle.envelope.specs.Rules.{callOf}
+use Rattle.envelope.specs.Rules.{callBytes}
 use Rattle.line_writer.specs.Steps.{added}
 use Rattle.line_writer.proofs.parts.src.Statement.{statement}
 use Rattle.line_writer.proofs.parts.src.Tie as tie
@@ -20,7 +20,7 @@ long c = search needs
 returns : tie.Need-returns
 returns c =
     let at-args = c .before .args in
-    one-off (at-args .on) keySrc (callOf (at-args .t)) (at-args .d) (not-true _ (c .if1 .taken))
+    one-off (at-args .on) keySrc (callBytes (at-args .t)) (at-args .d) (not-true _ (c .if1 .taken))
 
 part-put-end : tie.Need-part-put-end
 part-put-end c =
@@ -34,7 +34,7 @@ returns-2 c =
     let at-at-most = c .before .before .before .before .before .before .at-most in
     let at-start = c .before .before .before .before .before .before .before .before in
     let at-if1 = c .before .before .before .before .before .before .before .if1 in
-    c .put2 .ensures ∙ ap (λ (w : List ℕ). added w (at-put .result)) (part-cut (at-args .t .len) 12 (at-at-most .result) (at-args .t .bytes) (at-at-most .ensures .0) (long at-start)) ∙ ap (added (callOf (at-args .t))) (at-put .ensures) ∙ one-on (at-args .on) keySrc (callOf (at-args .t)) (at-args .d) (not-false _ (at-if1 .left))
+    c .put2 .ensures ∙ ap (λ (w : List ℕ). added w (at-put .result)) (part-cut (at-args .t .len) 12 (at-at-most .result) (at-args .t .bytes) (at-at-most .ensures .0) (long at-start)) ∙ ap (added (callBytes (at-args .t))) (at-put .ensures) ∙ one-on (at-args .on) keySrc (callBytes (at-args .t)) (at-args .d) (not-false _ (at-if1 .left))
 
 pub src-spec : {M : Type 1} → statement M
 src-spec =

@@ -10,7 +10,7 @@ use mathlib.Core.List.{List}
 use Rattle.text.specs.Decimal.{decimal}
 use Rattle.names.specs.Reserved.{keySid, keySn, keyGt}
 use Rattle.headers.proofs.Cuts.{part-cut}
-use Rattle.envelope.specs.Rules.{streamOf}
+use Rattle.envelope.specs.Rules.{streamBytes}
 use Rattle.line_writer.specs.Steps.{added, keyPart}
 use Rattle.line_writer.proofs.parts.stream.Statement.{statement}
 use Rattle.line_writer.proofs.parts.stream.Tie as tie
@@ -21,7 +21,7 @@ long c = search needs
 returns : tie.Need-returns
 returns c =
     let at-args = c .before .args in
-    three-off (at-args .on) keySid (streamOf (at-args .sid)) (at-args .d) keySn (decimal (at-args .sn)) keyGt (decimal (at-args .gt)) (not-true _ (c .if1 .taken))
+    three-off (at-args .on) keySid (streamBytes (at-args .sid)) (at-args .d) keySn (decimal (at-args .sn)) keyGt (decimal (at-args .gt)) (not-true _ (c .if1 .taken))
 
 part-put-end : tie.Need-part-put-end
 part-put-end c =
@@ -38,7 +38,7 @@ returns-2 c =
     let at-at-most = c .before .before .before .before .before .before .before .before .before .before .before .before .at-most in
     let at-start = c .before .before .before .before .before .before .before .before .before .before .before .before .before .before in
     let at-if1 = c .before .before .before .before .before .before .before .before .before .before .before .before .before .if1 in
-    c .put-number2 .ensures ∙ ap (added (decimal (at-args .gt))) (c .before .put4 .ensures ∙ ap (added (keyPart keyGt)) (at-put-number .ensures ∙ ap (added (decimal (at-args .sn))) (at-put3 .ensures ∙ ap (added (keyPart keySn)) (at-put2 .ensures ∙ ap (λ (w : List ℕ). added w (at-put .result)) (part-cut (at-args .sid .len) 255 (at-at-most .result) (at-args .sid .bytes) (at-at-most .ensures .0) (long at-start)) ∙ ap (added (streamOf (at-args .sid))) (at-put .ensures))))) ∙ three-on (at-args .on) keySid (streamOf (at-args .sid)) (at-args .d) keySn (decimal (at-args .sn)) keyGt (decimal (at-args .gt)) (not-false _ (at-if1 .left))
+    c .put-number2 .ensures ∙ ap (added (decimal (at-args .gt))) (c .before .put4 .ensures ∙ ap (added (keyPart keyGt)) (at-put-number .ensures ∙ ap (added (decimal (at-args .sn))) (at-put3 .ensures ∙ ap (added (keyPart keySn)) (at-put2 .ensures ∙ ap (λ (w : List ℕ). added w (at-put .result)) (part-cut (at-args .sid .len) 255 (at-at-most .result) (at-args .sid .bytes) (at-at-most .ensures .0) (long at-start)) ∙ ap (added (streamBytes (at-args .sid))) (at-put .ensures))))) ∙ three-on (at-args .on) keySid (streamBytes (at-args .sid)) (at-args .d) keySn (decimal (at-args .sn)) keyGt (decimal (at-args .gt)) (not-false _ (at-if1 .left))
 
 pub stream-spec : {M : Type 1} → statement M
 stream-spec =

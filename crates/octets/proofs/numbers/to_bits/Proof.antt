@@ -2,8 +2,7 @@
 use native.Mathlib.Omega.{arith}
 use mir.Syntax.{w64}
 use mir.ValLaws.{ofZ-fits, toZ-pos}
-use Rattle.octets.specs.Numbers.{signed}
-use Rattle.octets.proofs.SignLaws.{low, under}
+use Rattle.octets.proofs.SignLaws.{twos-kit, low, under}
 use Rattle.octets.specs.Bytes.{fits}
 use Rattle.octets.proofs.numbers.to_bits.Statement.{statement}
 use Rattle.octets.proofs.numbers.to_bits.Tie as tie
@@ -24,10 +23,14 @@ sub-result : tie.Need-sub-result
 sub-result c = let w = under (c .before .args .z) (c .before .fits .z) (c .if1 .left) in let p = toZ-pos w64 (w .depth) (w .small) in rw (w .back, p) (omega (arith, w .small))
 
 returns : tie.Need-returns
-returns c = rw (low (c .before .args .z) (c .before .fits .z) (c .if1 .taken))
+returns c =
+    let at-args = c .before .args in
+    rw (twos-kit (at-args .z), low (at-args .z) (c .before .fits .z) (c .if1 .taken))
 
 returns-2 : tie.Need-returns-2
-returns-2 c = let w = under (c .before .args .z) (c .before .fits .z) (c .if1 .left) in let p = toZ-pos w64 (w .depth) (w .small) in rw (w .back, p, w .bits)
+returns-2 c =
+    let at-args = c .before .args in
+    let w = under (at-args .z) (c .before .fits .z) (c .if1 .left) in let p = toZ-pos w64 (w .depth) (w .small) in rw (twos-kit (at-args .z), w .back, p, w .bits)
 
 pub to-bits-spec : {M : Type 1} → statement M
 to-bits-spec = tie.close (tie.spec cast-result sub-m cast-result-2 sub-result returns returns-2)

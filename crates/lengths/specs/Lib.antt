@@ -1,0 +1,1 @@
+-- Lengths and parts: the promises are in the words of octets (`allZero`) and of the library (`min`, `take`, `drop`).
