@@ -10,19 +10,11 @@ ghost use Rattle.text.specs.Steps.{spelled};
 fn worth_of(b: u8) -> u64
     ensures { λ r. ⌜ r ≡ worth b ⌝ }
 {
-    if b < 0x30 {
-        return 16;
+    match b {
+        b'0'..=b'9' => (b - b'0') as u64,
+        b'a'..=b'f' => (b - b'a' + 10) as u64,
+        _ => 16,
     }
-    if b <= 0x39 {
-        return (b - 0x30) as u64;
-    }
-    if b < 0x61 {
-        return 16;
-    }
-    if b <= 0x66 {
-        return (b - 0x57) as u64;
-    }
-    16
 }
 
 // The digit that is worth `d`.
