@@ -1,7 +1,4 @@
--- Laws of reading.
-pub mod Spans
-pub mod Ids
-pub mod Chains
-pub mod Behind
+-- What the reader's tests come to, and what every public contract must show.
+pub mod Fields
 pub mod Whole
 pub mod Unique

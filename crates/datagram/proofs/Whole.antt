@@ -13,9 +13,8 @@ use Rattle.octets.proofs.Tests.{if-yes, if-no, true-not-false}
 use Rattle.layout.specs.declared.Datagram.{Datagram}
 use Rattle.layout.specs.Layout.{message}
 use Rattle.datagram.specs.Answer.{accepted, refused, afterLength, afterFields, readOf}
-use Rattle.datagram.specs.Found.{found, finding}
-use Rattle.datagram.proofs.Spans.{rest}
-use Rattle.datagram.proofs.Chains.{tail, tail-length}
+use Rattle.datagram_numbers.specs.Found.{found, finding}
+use Rattle.datagram_numbers.proofs.Chains.{tail, rest, tail-length}
 
 pub empty : (d : List ℕ) → length d < 1 → refused 6 ≡ readOf d
 unfolding readOf

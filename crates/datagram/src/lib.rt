@@ -2,34 +2,30 @@
 use layout::Datagram;
 use octets::Read32;
 ghost use mathlib.Core.Path.{_≡_};
-ghost use Rattle.datagram.specs.Answer.{readOf, partOf, refused};
+ghost use Rattle.datagram.specs.Answer.{says, readOf, partOf, refused};
 
-mod found;
 mod groups;
-mod lists;
-mod numbers;
-mod texts;
 
 // Read, or refused with the number of the paper's table.
-pub enum Reading {
+pub enum DatagramReading {
     Read,
     Refused(u8),
 }
 
 // The message, and where the payload stands in the lent datagram; beside a refusal both are blank.
 pub struct DatagramAnswer {
-    pub reading: Reading,
+    pub reading: DatagramReading,
     pub message: Datagram,
     pub payload_at: usize,
     pub payload_len: usize,
 }
 
 fn refuse(number: u8) -> DatagramAnswer
-    ensures { λ r. ⌜ r ≡ refused number ⌝ }
+    ensures { λ r. ⌜ says r ≡ refused number ⌝ }
 {
     let message = layout::blank();
     DatagramAnswer {
-        reading: Reading::Refused(number),
+        reading: DatagramReading::Refused(number),
         message,
         payload_at: 0,
         payload_len: 0,
@@ -38,7 +34,7 @@ fn refuse(number: u8) -> DatagramAnswer
 
 // Reads a whole datagram.
 pub fn read_datagram(d: &[u8]) -> DatagramAnswer
-    ensures { λ r. ⌜ r ≡ readOf (now (d .entry)) ⌝ }
+    ensures { λ r. ⌜ says r ≡ readOf (now (d .entry)) ⌝ }
 {
     if d.len() < 1 {
         return refuse(refusals::NOT_VERSION_7);
@@ -66,7 +62,7 @@ pub fn read_datagram(d: &[u8]) -> DatagramAnswer
     }
     let message = m.message;
     DatagramAnswer {
-        reading: Reading::Read,
+        reading: DatagramReading::Read,
         message,
         payload_at: 1 + n + k,
         payload_len: len,

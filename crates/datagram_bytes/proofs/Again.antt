@@ -18,18 +18,16 @@ use Rattle.layout.specs.declared.Datagram.{Datagram}
 use Rattle.layout.specs.Rules.{valid}
 use Rattle.layout.specs.Layout.{layout, message}
 use Rattle.layout.proofs.Valid.{message-laws}
-use Rattle.datagram.specs.declared.Reading.{Reading}
-use Rattle.datagram.specs.declared.DatagramAnswer.{DatagramAnswer}
-use Rattle.datagram.specs.Answer.{accepted, refused, afterLength, afterFields, readOf}
+use Rattle.datagram.specs.Answer.{Verdict, readable, refusedWith, Said, accepted, refused, afterLength, afterFields, readOf}
 use Rattle.datagram_bytes.specs.Bytes.{bytesOf}
 
 -- a refusal is no accepted datagram
-abbrev isRead : Reading → ℕ
-isRead Reading.Read = 1
-isRead (Reading.Refused n) = 0
+abbrev isRead : Verdict → ℕ
+isRead readable = 1
+isRead (refusedWith n) = 0
 
 no-answer : {A : Type 0} (r : ℕ) (m : Datagram) (at n : ℕ) → refused r ≡ accepted m at n → A
-no-answer r m at n e = let z : _≡_ {A = ℕ} 0 1 = ap (λ (x : DatagramAnswer). isRead (x .reading)) e in absurd (omega arith)
+no-answer r m at n e = let z : _≡_ {A = ℕ} 0 1 = ap (λ (x : Said). isRead (x .reading)) e in absurd (omega arith)
 
 -- what was read on the way to an accepted datagram
 pub record Whole (d : List ℕ) (m : Datagram) (at n : ℕ) : Type 0 where
@@ -63,10 +61,10 @@ by-length d m at n m′ u (got v k) e = go (4096 <? v) refl (1 + u + k + v =? le
     go true p c q e = no-answer 4 m at n e
     go false p false q e = no-answer 7 m at n e
     go false p true q e =
-        let a : 1 + u + k ≡ at = ap (λ (x : DatagramAnswer). x .«payload_at») e in
-        let l : v ≡ n = ap (λ (x : DatagramAnswer). x .«payload_len») e in
+        let a : 1 + u + k ≡ at = ap (λ (x : Said). x .payloadAt) e in
+        let l : v ≡ n = ap (λ (x : Said). x .payloadLen) e in
         record {
-          same = ap (λ (x : DatagramAnswer). x .message) e;
+          same = ap (λ (x : Said). x .message) e;
           took = k;
           is = ap (λ (w : ℕ). got w k) l;
           small = omega (arith, l, ltb-false 4096 v p);

@@ -1,6 +1,4 @@
--- Laws of puts and of the whole datagram, what the public contract must show, and what writing and reading come to together.
-pub mod Puts
-pub mod Left
+-- The writer's ways out, both round trips, and what every public contract must show.
 pub mod Whole
-pub mod Unique
 pub mod Trips
+pub mod Unique

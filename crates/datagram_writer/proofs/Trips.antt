@@ -17,10 +17,11 @@ use Rattle.datagram.specs.Answer.{accepted, readOf, partOf}
 use Rattle.datagram_bytes.specs.Bytes.{bytesOf, placeOf, Typed}
 use Rattle.datagram_bytes.proofs.Back.{read-back}
 use Rattle.datagram_bytes.proofs.Again.{whole, accepted-valid, same-bytes}
-use Rattle.datagram_writer.specs.declared.Writing.{Writing}
 use Rattle.datagram_writer.specs.Answer.{writeOf, writeLeft}
-use Rattle.datagram_writer.specs.Steps.{headOf}
-use Rattle.datagram_writer.proofs.Whole.{head-payload, head-length, room-enough, left-written}
+use Rattle.datagram_writer.specs.Answer as answer
+use Rattle.datagram_head.specs.Head.{headOf}
+use Rattle.datagram_head.proofs.Whole.{head-length}
+use Rattle.datagram_writer.proofs.Whole.{head-payload, room-enough, left-written}
 
 -- the payload's place in the bytes of a message
 payload-part : (m : Datagram) (p : List ℕ) → partOf (bytesOf m p) (placeOf m) (length p) ≡ p
@@ -33,7 +34,7 @@ payload-part m p =
 
 module _ (m : Datagram) (payload buffer : List ℕ) (t : Typed m) (v : valid m ≡ true) (h : length payload ≤ 4096) (k : length (bytesOf m payload) ≤ length buffer) where
   -- it is written
-  pub written : writeOf m payload (length buffer) ≡ Writing.Written (length (bytesOf m payload))
+  pub written : writeOf m payload (length buffer) ≡ answer.written (length (bytesOf m payload))
   written = room-enough m payload buffer v h k
 
   bytes-written : take (length (bytesOf m payload)) (writeLeft m payload buffer) ≡ bytesOf m payload
@@ -62,8 +63,8 @@ module _ (d : List ℕ) (m : Datagram) (at n : ℕ) (buffer : List ℕ) (hd : By
   room = rw same k
 
   -- written again, the datagram is as long
-  pub read-written : writeOf m (partOf d at n) (length buffer) ≡ Writing.Written (length d)
-  read-written = room-enough m (partOf d at n) buffer (accepted-valid d m at n hd e) small room ∙ ap (λ (b : List ℕ). Writing.Written (length b)) same
+  pub read-written : writeOf m (partOf d at n) (length buffer) ≡ answer.written (length d)
+  read-written = room-enough m (partOf d at n) buffer (accepted-valid d m at n hd e) small room ∙ ap (λ (b : List ℕ). answer.written (length b)) same
 
   -- and has the same bytes
   pub read-left : writeLeft m (partOf d at n) buffer ≡ front d buffer

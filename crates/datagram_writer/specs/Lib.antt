@@ -1,3 +1,2 @@
 -- Document 01, "The datagram": what the writer answers and leaves.
 pub mod Answer
-pub mod Steps

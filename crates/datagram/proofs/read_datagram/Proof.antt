@@ -5,8 +5,8 @@ use borrow.Author.Needs.{needs}
 use borrow.Author.Tests.{not-true, not-false}
 use lib.ListN.{length}
 use Rattle.octets.proofs.FieldLaws.{num-laws}
-use Rattle.datagram.proofs.Spans.{short32, got32, rest}
-use Rattle.datagram.proofs.Chains.{tail}
+use Rattle.datagram_numbers.proofs.Answers.{short32, got32}
+use Rattle.datagram_numbers.proofs.Chains.{tail}
 use Rattle.datagram.proofs.Whole.{empty, other-version, no-fields, no-length, too-long, other-length, whole-room, read-whole}
 use Rattle.datagram.proofs.read_datagram.Statement.{statement}
 use Rattle.datagram.proofs.read_datagram.Tie as tie

@@ -1,82 +1,168 @@
 -- The four groups, each from the part behind the last, and the rules.
 use native.Mathlib.Omega.{arith}
 use borrow.Author.Needs.{needs}
-use Rattle.layout.specs.Rules.{valid}
-use Rattle.layout.specs.Layout.{opening, ends, way, options, layout, message, messageOf}
-use Rattle.datagram.proofs.Spans.{found-as}
-use Rattle.datagram.proofs.Chains.{room-four, found-only, four-found}
+use borrow.Author.Tests.{not-true, not-false}
+use Rattle.layout.specs.Layout.{opening, ends, way}
+use Rattle.layout.proofs.Whole.{opening-laws, ends-laws, way-laws}
+use Rattle.datagram_numbers.proofs.Answers.{said, not-found, is-found}
+use Rattle.datagram_numbers.proofs.Chains.{tail, tail-length}
+use Rattle.datagram_numbers.proofs.Says.{says-opening}
+use Rattle.datagram_texts.proofs.Says.{says-ends}
+use Rattle.datagram_lists.proofs.Says.{says-way}
+use Rattle.datagram.proofs.Fields.{nothing, no-opening, no-ends, no-way, no-options, all-fields}
 use Rattle.datagram.proofs.groups.read_message.Statement.{statement}
 use Rattle.datagram.proofs.groups.read_message.Tie as tie
 
-add-t17 : tie.Need-add-t17
-add-t17 c =
-    let at-read-opening = c .before .before .before .before .before .before .before .before .before .before .before .before .before .before .read-opening in
-    let at-read-ends = c .before .before .before .before .before .before .before .before .before .before .before .read-ends in
-    let at-read-way = c .before .before .before .before .before .before .before .before .before .read-way in
-    let at-read-options = c .before .before .before .before .before .before .before .read-options in
-    let at-args = c .before .before .before .before .before .before .before .before .before .before .before .before .before .before .before .before .args in
-    let at-good = c .before .before .before .before .before .before .before .before .before .before .before .before .before .before .before .before .good in
-    omega (arith, room-four (at-read-opening .result .used) (at-read-ends .result .used) (at-read-way .result .used) (at-read-options .result .used) (at-args .d .now) (at-read-opening .ensures .1) (at-read-ends .ensures .1) (at-read-way .ensures .1) (at-read-options .ensures .1) .0, at-good .0)
-
-add-t25 : tie.Need-add-t25
-add-t25 c =
-    let at-read-opening = c .before .before .before .before .before .before .before .before .before .before .before .before .before .before .read-opening in
-    let at-read-ends = c .before .before .before .before .before .before .before .before .before .before .before .read-ends in
-    let at-read-way = c .before .before .before .before .before .before .before .before .before .read-way in
-    let at-read-options = c .before .before .before .before .before .before .before .read-options in
-    let at-args = c .before .before .before .before .before .before .before .before .before .before .before .before .before .before .before .before .args in
-    let at-good = c .before .before .before .before .before .before .before .before .before .before .before .before .before .before .before .before .good in
-    omega (arith, room-four (at-read-opening .result .used) (at-read-ends .result .used) (at-read-way .result .used) (at-read-options .result .used) (at-args .d .now) (at-read-opening .ensures .1) (at-read-ends .ensures .1) (at-read-way .ensures .1) (at-read-options .ensures .1) .1, at-good .0)
-
-add-t26 : tie.Need-add-t26
-add-t26 c =
-    let at-read-opening = c .before .before .before .before .before .before .before .before .before .before .before .before .before .before .read-opening in
-    let at-read-ends = c .before .before .before .before .before .before .before .before .before .before .before .read-ends in
-    let at-read-way = c .before .before .before .before .before .before .before .before .before .read-way in
-    let at-read-options = c .before .before .before .before .before .before .before .read-options in
-    let at-args = c .before .before .before .before .before .before .before .before .before .before .before .before .before .before .before .before .args in
-    let at-good = c .before .before .before .before .before .before .before .before .before .before .before .before .before .before .before .before .good in
-    omega (arith, room-four (at-read-opening .result .used) (at-read-ends .result .used) (at-read-way .result .used) (at-read-options .result .used) (at-args .d .now) (at-read-opening .ensures .1) (at-read-ends .ensures .1) (at-read-way .ensures .1) (at-read-options .ensures .1) .2, at-good .0)
-
 returns : tie.Need-returns
-unfolding message layout
 returns c =
-    let at-both3 = c .before .before .before .before .both3 in
-    let at-both2 = c .before .before .before .before .before .both2 in
-    let at-both = c .before .before .before .before .before .before .both in
-    let at-is-valid = c .before .before .is-valid in
-    let at-args = c .before .before .before .before .before .before .before .before .before .before .before .before .before .before .before .before .args in
-    let at-read-opening = c .before .before .before .before .before .before .before .before .before .before .before .before .before .before .read-opening in
+    let at-args = c .before .before .before .before .before .args in
+    let at-read-opening = c .before .before .before .read-opening in
+    nothing _ (at-args .d .now) _ _ _ (no-opening (at-args .d .now) (not-found _ (at-args .d .now) _ _ _ (said says-opening opening opening-laws (at-args .d .now) (at-read-opening .result) (at-read-opening .ensures)) (not-true _ (c .before .if1 .taken)))) (c .unread .ensures)
+
+sub-d1 : tie.Need-sub-d1
+sub-d1 c =
+    let at-args = c .before .before .before .before .before .args in
+    let at-read-opening = c .before .before .before .read-opening in
+    (said says-opening opening opening-laws (at-args .d .now) (at-read-opening .result) (at-read-opening .ensures)) .1
+
+part-d1-start : tie.Need-part-d1-start
+part-d1-start c =
+    let at-args = c .before .before .before .before .before .args in
+    let at-read-opening = c .before .before .before .read-opening in
+    (said says-opening opening opening-laws (at-args .d .now) (at-read-opening .result) (at-read-opening .ensures)) .1
+
+returns-2 : tie.Need-returns-2
+returns-2 c =
+    let at-args = c .before .before .before .before .before .before .before .before .before .before .args in
+    let at-read-opening = c .before .before .before .before .before .before .before .before .read-opening in
+    let at-if1 = c .before .before .before .before .before .before .if1 in
+    let at-read-ends = c .before .before .before .read-ends in
+    nothing _ (at-args .d .now) _ _ _ (no-ends (at-args .d .now) _ _ (is-found _ (at-args .d .now) _ _ _ (said says-opening opening opening-laws (at-args .d .now) (at-read-opening .result) (at-read-opening .ensures)) (not-false _ (at-if1 .left))) (not-found _ (tail (at-read-opening .result .used) (at-args .d .now)) _ _ _ (said says-ends (ends (at-read-opening .result .flags)) (ends-laws (at-read-opening .result .flags)) (tail (at-read-opening .result .used) (at-args .d .now)) (at-read-ends .result) (at-read-ends .ensures)) (not-true _ (c .before .if2 .taken)))) (c .unread2 .ensures)
+
+sub-d2 : tie.Need-sub-d2
+sub-d2 c =
+    let at-read-opening = c .before .before .before .before .before .before .before .read-opening in
+    let at-args = c .before .before .before .before .before .before .before .before .before .args in
+    let at-read-ends = c .before .before .read-ends in
+    (said says-ends (ends (at-read-opening .result .flags)) (ends-laws (at-read-opening .result .flags)) (tail (at-read-opening .result .used) (at-args .d .now)) (at-read-ends .result) (at-read-ends .ensures)) .1
+
+part-d2-start : tie.Need-part-d2-start
+part-d2-start c =
+    let at-read-opening = c .before .before .before .before .before .before .before .read-opening in
+    let at-args = c .before .before .before .before .before .before .before .before .before .args in
+    let at-read-ends = c .before .before .read-ends in
+    (said says-ends (ends (at-read-opening .result .flags)) (ends-laws (at-read-opening .result .flags)) (tail (at-read-opening .result .used) (at-args .d .now)) (at-read-ends .result) (at-read-ends .ensures)) .1
+
+returns-3 : tie.Need-returns-3
+returns-3 c =
+    let at-args = c .before .before .before .before .before .before .before .before .before .before .before .before .before .before .args in
+    let at-read-opening = c .before .before .before .before .before .before .before .before .before .before .before .before .read-opening in
+    let at-if1 = c .before .before .before .before .before .before .before .before .before .before .if1 in
+    let at-read-ends = c .before .before .before .before .before .before .before .read-ends in
+    let at-if2 = c .before .before .before .before .before .if2 in
+    let at-read-way = c .before .before .before .read-way in
+    nothing _ (at-args .d .now) _ _ _ (no-way (at-args .d .now) _ _ (is-found _ (at-args .d .now) _ _ _ (said says-opening opening opening-laws (at-args .d .now) (at-read-opening .result) (at-read-opening .ensures)) (not-false _ (at-if1 .left))) _ _ (is-found _ (tail (at-read-opening .result .used) (at-args .d .now)) _ _ _ (said says-ends (ends (at-read-opening .result .flags)) (ends-laws (at-read-opening .result .flags)) (tail (at-read-opening .result .used) (at-args .d .now)) (at-read-ends .result) (at-read-ends .ensures)) (not-false _ (at-if2 .left))) (not-found _ (tail (at-read-ends .result .used) (tail (at-read-opening .result .used) (at-args .d .now))) _ _ _ (said says-way (way (at-read-opening .result .flags)) (way-laws (at-read-opening .result .flags)) (tail (at-read-ends .result .used) (tail (at-read-opening .result .used) (at-args .d .now))) (at-read-way .result) (at-read-way .ensures)) (not-true _ (c .before .if3 .taken)))) (c .unread3 .ensures)
+
+sub-read-options : tie.Need-sub-read-options
+sub-read-options c =
+    let at-read-opening = c .before .before .before .before .before .before .before .before .before .before .before .read-opening in
+    let at-read-ends = c .before .before .before .before .before .before .read-ends in
+    let at-args = c .before .before .before .before .before .before .before .before .before .before .before .before .before .args in
+    let at-read-way = c .before .before .read-way in
+    (said says-way (way (at-read-opening .result .flags)) (way-laws (at-read-opening .result .flags)) (tail (at-read-ends .result .used) (tail (at-read-opening .result .used) (at-args .d .now))) (at-read-way .result) (at-read-way .ensures)) .1
+
+part-read-options-start : tie.Need-part-read-options-start
+part-read-options-start c =
+    let at-read-opening = c .before .before .before .before .before .before .before .before .before .before .before .read-opening in
+    let at-read-ends = c .before .before .before .before .before .before .read-ends in
+    let at-args = c .before .before .before .before .before .before .before .before .before .before .before .before .before .args in
+    let at-read-way = c .before .before .read-way in
+    (said says-way (way (at-read-opening .result .flags)) (way-laws (at-read-opening .result .flags)) (tail (at-read-ends .result .used) (tail (at-read-opening .result .used) (at-args .d .now))) (at-read-way .result) (at-read-way .ensures)) .1
+
+returns-4 : tie.Need-returns-4
+returns-4 c =
+    let at-args = c .before .before .before .before .before .before .before .before .before .before .before .before .before .before .before .before .before .before .args in
+    let at-read-opening = c .before .before .before .before .before .before .before .before .before .before .before .before .before .before .before .before .read-opening in
+    let at-if1 = c .before .before .before .before .before .before .before .before .before .before .before .before .before .before .if1 in
     let at-read-ends = c .before .before .before .before .before .before .before .before .before .before .before .read-ends in
+    let at-if2 = c .before .before .before .before .before .before .before .before .before .if2 in
+    let at-read-way = c .before .before .before .before .before .before .before .read-way in
+    let at-if3 = c .before .before .before .before .before .if3 in
+    let at-read-options = c .before .before .before .read-options in
+    nothing _ (at-args .d .now) _ _ _ (no-options (at-args .d .now) _ _ (is-found _ (at-args .d .now) _ _ _ (said says-opening opening opening-laws (at-args .d .now) (at-read-opening .result) (at-read-opening .ensures)) (not-false _ (at-if1 .left))) _ _ (is-found _ (tail (at-read-opening .result .used) (at-args .d .now)) _ _ _ (said says-ends (ends (at-read-opening .result .flags)) (ends-laws (at-read-opening .result .flags)) (tail (at-read-opening .result .used) (at-args .d .now)) (at-read-ends .result) (at-read-ends .ensures)) (not-false _ (at-if2 .left))) _ _ (is-found _ (tail (at-read-ends .result .used) (tail (at-read-opening .result .used) (at-args .d .now))) _ _ _ (said says-way (way (at-read-opening .result .flags)) (way-laws (at-read-opening .result .flags)) (tail (at-read-ends .result .used) (tail (at-read-opening .result .used) (at-args .d .now))) (at-read-way .result) (at-read-way .ensures)) (not-false _ (at-if3 .left))) (not-found _ (tail (at-read-way .result .used) (tail (at-read-ends .result .used) (tail (at-read-opening .result .used) (at-args .d .now)))) _ _ _ (at-read-options .ensures) (not-true _ (c .before .if4 .taken)))) (c .unread4 .ensures)
+
+add-t15 : tie.Need-add-t15
+add-t15 c =
+    let at-args = c .before .before .before .before .before .before .before .before .before .before .before .before .before .before .before .before .before .before .before .before .args in
+    let at-read-opening = c .before .before .before .before .before .before .before .before .before .before .before .before .before .before .before .before .before .before .read-opening in
+    let at-read-ends = c .before .before .before .before .before .before .before .before .before .before .before .before .before .read-ends in
     let at-read-way = c .before .before .before .before .before .before .before .before .before .read-way in
-    let at-read-options = c .before .before .before .before .before .before .before .read-options in
-    let at-put-together = c .before .before .before .put-together in
-    rw (c .before .both4 .ensures, at-both3 .ensures, at-both2 .ensures, at-both .ensures, at-is-valid .ensures) (found-only valid layout (at-args .d .now) _ _ _ (found-as messageOf _ (at-args .d .now) _ _ _ _ (four-found opening (λ o. ends (o .0)) (λ o. way (o .0)) (λ o. options (o .0)) (at-args .d .now) _ _ _ _ _ _ _ _ _ _ _ _ (at-read-opening .ensures) (at-read-ends .ensures) (at-read-way .ensures) (at-read-options .ensures)) (at-put-together .ensures)))
+    let at-read-options = c .before .before .before .before .before .read-options in
+    let at-good = c .before .before .before .before .before .before .before .before .before .before .before .before .before .before .before .before .before .before .before .before .good in
+    omega (arith, (said says-opening opening opening-laws (at-args .d .now) (at-read-opening .result) (at-read-opening .ensures)) .1, (said says-ends (ends (at-read-opening .result .flags)) (ends-laws (at-read-opening .result .flags)) (tail (at-read-opening .result .used) (at-args .d .now)) (at-read-ends .result) (at-read-ends .ensures)) .1, (said says-way (way (at-read-opening .result .flags)) (way-laws (at-read-opening .result .flags)) (tail (at-read-ends .result .used) (tail (at-read-opening .result .used) (at-args .d .now))) (at-read-way .result) (at-read-way .ensures)) .1, (at-read-options .ensures) .1, tail-length (at-read-opening .result .used) (at-args .d .now), tail-length (at-read-ends .result .used) (tail (at-read-opening .result .used) (at-args .d .now)), tail-length (at-read-way .result .used) (tail (at-read-ends .result .used) (tail (at-read-opening .result .used) (at-args .d .now))), at-good .0)
+
+add-t22 : tie.Need-add-t22
+add-t22 c =
+    let at-args = c .before .before .before .before .before .before .before .before .before .before .before .before .before .before .before .before .before .before .before .before .args in
+    let at-read-opening = c .before .before .before .before .before .before .before .before .before .before .before .before .before .before .before .before .before .before .read-opening in
+    let at-read-ends = c .before .before .before .before .before .before .before .before .before .before .before .before .before .read-ends in
+    let at-read-way = c .before .before .before .before .before .before .before .before .before .read-way in
+    let at-read-options = c .before .before .before .before .before .read-options in
+    let at-good = c .before .before .before .before .before .before .before .before .before .before .before .before .before .before .before .before .before .before .before .before .good in
+    omega (arith, (said says-opening opening opening-laws (at-args .d .now) (at-read-opening .result) (at-read-opening .ensures)) .1, (said says-ends (ends (at-read-opening .result .flags)) (ends-laws (at-read-opening .result .flags)) (tail (at-read-opening .result .used) (at-args .d .now)) (at-read-ends .result) (at-read-ends .ensures)) .1, (said says-way (way (at-read-opening .result .flags)) (way-laws (at-read-opening .result .flags)) (tail (at-read-ends .result .used) (tail (at-read-opening .result .used) (at-args .d .now))) (at-read-way .result) (at-read-way .ensures)) .1, (at-read-options .ensures) .1, tail-length (at-read-opening .result .used) (at-args .d .now), tail-length (at-read-ends .result .used) (tail (at-read-opening .result .used) (at-args .d .now)), tail-length (at-read-way .result .used) (tail (at-read-ends .result .used) (tail (at-read-opening .result .used) (at-args .d .now))), at-good .0)
+
+add-t23 : tie.Need-add-t23
+add-t23 c =
+    let at-args = c .before .before .before .before .before .before .before .before .before .before .before .before .before .before .before .before .before .before .before .before .args in
+    let at-read-opening = c .before .before .before .before .before .before .before .before .before .before .before .before .before .before .before .before .before .before .read-opening in
+    let at-read-ends = c .before .before .before .before .before .before .before .before .before .before .before .before .before .read-ends in
+    let at-read-way = c .before .before .before .before .before .before .before .before .before .read-way in
+    let at-read-options = c .before .before .before .before .before .read-options in
+    let at-good = c .before .before .before .before .before .before .before .before .before .before .before .before .before .before .before .before .before .before .before .before .good in
+    omega (arith, (said says-opening opening opening-laws (at-args .d .now) (at-read-opening .result) (at-read-opening .ensures)) .1, (said says-ends (ends (at-read-opening .result .flags)) (ends-laws (at-read-opening .result .flags)) (tail (at-read-opening .result .used) (at-args .d .now)) (at-read-ends .result) (at-read-ends .ensures)) .1, (said says-way (way (at-read-opening .result .flags)) (way-laws (at-read-opening .result .flags)) (tail (at-read-ends .result .used) (tail (at-read-opening .result .used) (at-args .d .now))) (at-read-way .result) (at-read-way .ensures)) .1, (at-read-options .ensures) .1, tail-length (at-read-opening .result .used) (at-args .d .now), tail-length (at-read-ends .result .used) (tail (at-read-opening .result .used) (at-args .d .now)), tail-length (at-read-way .result .used) (tail (at-read-ends .result .used) (tail (at-read-opening .result .used) (at-args .d .now))), at-good .0)
+
+returns-5 : tie.Need-returns-5
+returns-5 c =
+    let at-args = c .before .before .before .before .before .before .before .before .before .before .before .before .before .before .before .before .before .before .before .before .args in
+    let at-read-opening = c .before .before .before .before .before .before .before .before .before .before .before .before .before .before .before .before .before .before .read-opening in
+    let at-if1 = c .before .before .before .before .before .before .before .before .before .before .before .before .before .before .before .before .if1 in
+    let at-read-ends = c .before .before .before .before .before .before .before .before .before .before .before .before .before .read-ends in
+    let at-if2 = c .before .before .before .before .before .before .before .before .before .before .before .if2 in
+    let at-read-way = c .before .before .before .before .before .before .before .before .before .read-way in
+    let at-if3 = c .before .before .before .before .before .before .before .if3 in
+    let at-read-options = c .before .before .before .before .before .read-options in
+    let at-if4 = c .before .before .before .if4 in
+    let at-put-together = c .before .before .put-together in
+    all-fields (at-args .d .now) _ _ (is-found _ (at-args .d .now) _ _ _ (said says-opening opening opening-laws (at-args .d .now) (at-read-opening .result) (at-read-opening .ensures)) (not-false _ (at-if1 .left))) _ _ (is-found _ (tail (at-read-opening .result .used) (at-args .d .now)) _ _ _ (said says-ends (ends (at-read-opening .result .flags)) (ends-laws (at-read-opening .result .flags)) (tail (at-read-opening .result .used) (at-args .d .now)) (at-read-ends .result) (at-read-ends .ensures)) (not-false _ (at-if2 .left))) _ _ (is-found _ (tail (at-read-ends .result .used) (tail (at-read-opening .result .used) (at-args .d .now))) _ _ _ (said says-way (way (at-read-opening .result .flags)) (way-laws (at-read-opening .result .flags)) (tail (at-read-ends .result .used) (tail (at-read-opening .result .used) (at-args .d .now))) (at-read-way .result) (at-read-way .ensures)) (not-false _ (at-if3 .left))) _ _ (is-found _ (tail (at-read-way .result .used) (tail (at-read-ends .result .used) (tail (at-read-opening .result .used) (at-args .d .now)))) _ _ _ (at-read-options .ensures) (not-false _ (at-if4 .left))) ((said says-opening opening opening-laws (at-args .d .now) (at-read-opening .result) (at-read-opening .ensures)) .1) ((said says-ends (ends (at-read-opening .result .flags)) (ends-laws (at-read-opening .result .flags)) (tail (at-read-opening .result .used) (at-args .d .now)) (at-read-ends .result) (at-read-ends .ensures)) .1) ((said says-way (way (at-read-opening .result .flags)) (way-laws (at-read-opening .result .flags)) (tail (at-read-ends .result .used) (tail (at-read-opening .result .used) (at-args .d .now))) (at-read-way .result) (at-read-way .ensures)) .1) ((at-read-options .ensures) .1) _ (at-put-together .ensures) _ (c .before .is-valid .ensures)
 
 pub read-message-spec : {M : Type 1} → statement M
 read-message-spec =
     tie.close
     (tie.spec
     (λ c κs. search needs)
-    (λ c. search needs)
-    (λ c. search needs)
-    (λ c. search needs)
     (λ c κs. search needs)
-    (λ c. search needs)
-    (λ c. search needs)
-    (λ c. search needs)
-    (λ c κs. search needs)
-    (λ c. search needs)
-    (λ c. search needs)
+    returns
+    sub-d1
+    part-d1-start
     (λ c. search needs)
     (λ c κs. search needs)
     (λ c κs. search needs)
+    returns-2
+    sub-d2
+    part-d2-start
+    (λ c. search needs)
     (λ c κs. search needs)
     (λ c κs. search needs)
+    returns-3
+    sub-read-options
+    part-read-options-start
+    (λ c. search needs)
     (λ c κs. search needs)
     (λ c κs. search needs)
+    returns-4
     (λ c κs. search needs)
-    add-t17
-    add-t25
-    add-t26
-    returns)
+    (λ c κs. search needs)
+    add-t15
+    add-t22
+    add-t23
+    returns-5)

@@ -1,0 +1,76 @@
+// Document 01, "The datagram": its lists, each behind its count. Flood hops, source route and traversed hops; the headers.
+// A reader answers whether its fields are there, how many bytes they took and their values; where they are not there, everything else is blank.
+use headers::Headers;
+use layout::Flags;
+use layout::Hops;
+use octets::Read16;
+ghost use mathlib.Core.Path.{_≡_};
+ghost use Rattle.octets.specs.Field.{bad};
+ghost use Rattle.layout.specs.Layout.{way, headersIf};
+ghost use Rattle.datagram_lists.specs.Found.{wayFound, headersFound};
+
+mod headings;
+mod routes;
+
+// Flood hops, source route, traversed hops.
+pub struct WayFound {
+    pub ok: bool,
+    pub used: usize,
+    pub flood: u8,
+    pub route: Hops,
+    pub hops: Hops,
+}
+
+pub struct HeadersFound {
+    pub ok: bool,
+    pub used: usize,
+    pub headers: Headers,
+}
+
+// Flood hops, source route, traversed hops.
+pub fn read_way(d: &[u8], flags: Flags) -> WayFound
+    ensures { λ r. ⌜ r ≡ wayFound (way flags .parse (now (d .entry))) ⌝ }
+{
+    let r = routes::read_three(d, flags);
+    if !r.ok {
+        let route = layout::no_hops();
+        let hops = layout::no_hops();
+        return WayFound {
+            ok: false,
+            used: 0,
+            flood: 0,
+            route,
+            hops,
+        };
+    }
+    r
+}
+
+// The headers, where the flag is set: 1 to 8 of them.
+pub fn read_headers(d: &[u8], has: bool) -> HeadersFound
+    ensures { λ r. ⌜ r ≡ headersFound (headersIf has .parse (now (d .entry))) ⌝ }
+{
+    if !has {
+        return headings::no_headers(true);
+    }
+    let c = octets::read_u16(d);
+    let Read16::Got(v, n) = c else {
+        return headings::no_headers(false);
+    };
+    if v < 1 {
+        return headings::no_headers(false);
+    }
+    if 8 < v {
+        return headings::no_headers(false);
+    }
+    let r = headings::read_items(&d[n..], v as usize);
+    if !r.ok {
+        return headings::no_headers(false);
+    }
+    let headers = r.headers;
+    HeadersFound {
+        ok: true,
+        used: n + r.used,
+        headers,
+    }
+}

@@ -1,0 +1,2 @@
+-- What the readers of a datagram's numbers answer.
+pub mod Found

@@ -1,0 +1,2 @@
+-- What the readers of a datagram's texts answer.
+pub mod Found
