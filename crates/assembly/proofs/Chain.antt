@@ -1,5 +1,5 @@
 -- THEOREM: over any chain of adds, collects and sweeps from free groups, in which the host lends the same bytes unaltered, a collect that is not refused
--- gives exactly the bytes of the M fragments that were added under its key since the group opened, in the order of N, whatever the order of arrival.
+-- gives exactly the bytes of the M fragments that were added under its key since the group newGroup, in the order of N, whatever the order of arrival.
 use mathlib.Core.Path.{_≡_, refl, sym, ap, _∙_, subst}
 use Prim.Native.Nat.{ℕ, _-_, _≤_, _<_}
 use native.Mathlib.Omega.{arith}
@@ -19,7 +19,7 @@ use Rattle.groups.specs.declared.Groups.{Groups}
 use Rattle.groups.specs.declared.Piece.{Piece}
 use Rattle.groups.specs.Groups.{place, storeSize, noPiece, hasKey, keepsGroups, pastGroup, groupAt}
 use Rattle.groupcalls.specs.Answer.{swept, Outcome, refuse}
-use Rattle.groupcalls.specs.Calls.{withFragment, opened, sweep, sweptGroup}
+use Rattle.groupcalls.specs.Calls.{withFragment, newGroup, sweep, sweptGroup}
 use Rattle.groupcalls.proofs.Tests.{Ranged, pieces-kept, group-kept}
 use Rattle.groupcalls.proofs.Moves.{Move, joining, opening, add-moves, Taking, taking, collect-takes}
 use Rattle.fragments.specs.Store.{placeOf, storeAfter, outAfter}
@@ -39,7 +39,7 @@ with-key : (j : Key) (x : Group) (f : Arrival) → hasKey j x ≡ true → hasKe
 unfolding hasKey
 with-key j x f e = e
 
-opened-key : (j : Key) (f : Arrival) → hasKey j (withFragment (opened j (fragment f)) (fragment f)) ≡ true
+opened-key : (j : Key) (f : Arrival) → hasKey j (withFragment (newGroup j (fragment f)) (fragment f)) ≡ true
 unfolding hasKey
 opened-key j f = sameKey-refl j
 
@@ -60,7 +60,7 @@ joined-match l g x store f m s r h e long short new =
 
 -- the first fragment of a group
 opened-match : (j : Key) (g : ℕ) (store : List ℕ) (f : Arrival) → length store ≡ storeSize → Ranged (fragment f) → g < 4
-    → Match (f ∷ []) g (withFragment (opened j (fragment f)) (fragment f)) (placed (f .bytes) (placeOf g (f .number)) store)
+    → Match (f ∷ []) g (withFragment (newGroup j (fragment f)) (fragment f)) (placed (f .bytes) (placeOf g (f .number)) store)
 opened-match j g store f s r h =
     record {
       filled = omega arith;
@@ -68,7 +68,7 @@ opened-match j g store f s r h =
       agree = and-both _ _ (and-both _ _ (eq-eqb (f .total) (f .total) refl) (inside 1 (f .total) (f .number) (r .from) (r .to))) refl;
       began = refl;
       parts =
-          parts-add [] g (opened j (fragment f) .pieces) store f s (r .size) h (r .from) (omega (arith, r .to, r .most)) refl
+          parts-add [] g (newGroup j (fragment f) .pieces) store f s (r .size) h (r .from) (omega (arith, r .to, r .most)) refl
           (λ n b. let z = ap (λ (p : Piece). p .len) (getD-replicate 16 n noPiece noPiece b) in omega arith)
           (ap (λ (p : Piece). p .held) (getD-replicate 16 (f .number - 1) noPiece noPiece (omega (arith, r .from, r .to, r .most)))) (parts-none g store);
     }
@@ -97,8 +97,8 @@ step-add w a f said o =
         good-add t (w .store) said o j g (withFragment y (fragment f)) f e s r b (with-key j y f u) (λ i q. has-other j i y q u)
         (λ i q. joined-match (said i) g y (w .store) f (o .there i g b (has-same j i y q u)) s r b v (pieces-kept y p .0) (shorts y p) z)
     go x (opening {g} k s r b u v z) e =
-        good-add t (w .store) said o j g (withFragment (opened j (fragment f)) (fragment f)) f e s r b (opened-key j f) (λ i q. free-key i (groupAt t g) u)
-        (λ i q. subst (λ (l : List Arrival). Match (f ∷ l) g (withFragment (opened j (fragment f)) (fragment f)) (placed (f .bytes) (placeOf g (f .number)) (w .store))) (sym (unknown i q)) (opened-match j g (w .store) f s r b))
+        good-add t (w .store) said o j g (withFragment (newGroup j (fragment f)) (fragment f)) f e s r b (opened-key j f) (λ i q. free-key i (groupAt t g) u)
+        (λ i q. subst (λ (l : List Arrival). Match (f ∷ l) g (withFragment (newGroup j (fragment f)) (fragment f)) (placed (f .bytes) (placeOf g (f .number)) (w .store))) (sym (unknown i q)) (opened-match j g (w .store) f s r b))
       where
         without : (i : Key) → sameKey j i ≡ true → (x : Group) → hasKey j x ≡ false → (c : Bool) → hasKey i x ≡ c → c ≡ false
         without i q x e true h = true-not-false (hasKey j x) (has-same i j x (sameKey-sym j i q) h) e

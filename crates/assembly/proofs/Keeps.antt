@@ -16,7 +16,7 @@ use Rattle.groupkeys.specs.Key.{keepsKey, namedOf}
 use Rattle.groups.specs.Groups.{freeGroup, hasKey, complete, keepsPiece, keepsGroup, keepsGroups, twice, distinct, groupAt, withGroup, empty}
 use Rattle.groupcalls.specs.declared.Fragment.{Fragment}
 use Rattle.groupcalls.specs.Answer.{Outcome, swept, refuse}
-use Rattle.groupcalls.specs.Calls.{withFragment, opened, add, collect, sweptGroup, sweep}
+use Rattle.groupcalls.specs.Calls.{withFragment, newGroup, add, collect, sweptGroup, sweep}
 use Rattle.groupcalls.proofs.Tests.{Kept, kept, pieces-kept, group-kept}
 use Rattle.groupcalls.proofs.Moves.{Move, joining, opening, add-moves, Taking, taking, collect-takes, not-free}
 use Rattle.assembly.specs.History.{Call, adding, collecting, sweeping, House, named, fragment, after}
@@ -41,7 +41,7 @@ add-keeps t size has o master f e = go (add t size (namedOf has o master) f) (ad
         let s = group-kept t k g b in
         set-keeps t g (withFragment y f) k (with-keeps y f r (used-key _ y u) v (pieces-kept y s .0) (pieces-kept y s .1) (key-kept y s)) (distinct-less (t .items) g (withFragment y f) (k .apart) (λ q. (q, refl)))
     go x (opening {g} k z r b u v w) =
-        let y = opened (namedOf has o master .key) f in
+        let y = newGroup (namedOf has o master .key) f in
         set-keeps t g (withFragment y f) k (with-keeps y f r refl refl refl refl (named-keeps has o master w)) (distinct-new (t .items) g (withFragment y f) (k .apart) v)
 
 pub collect-keeps : (t : Groups) (size : ℕ) (named : Named) (room : ℕ) → keepsGroups t ≡ true → keepsGroups (collect t size named room .after) ≡ true

@@ -14,7 +14,7 @@ use Rattle.groupkeys.specs.declared.Key.{Key}
 use Rattle.groupkeys.specs.declared.Named.{Named}
 use Rattle.groups.specs.declared.Piece.{Piece}
 use Rattle.groups.specs.declared.Group.{Group}
-use Rattle.groupkeys.specs.Key.{sameKey, isOriginator, isMaster, given, keyOf, noKey, keepsKey, namedOf}
+use Rattle.groupkeys.specs.Key.{sameKey, isOriginator, isMaster, lookedAt, keyOf, noKey, keepsKey, namedOf}
 use Rattle.groups.specs.Groups.{place, isHeld, freeGroup, hasKey, keepsPiece, keepsPieces, keepsGroup, twice, distinct, pastGroup}
 use Rattle.groupkeys.proofs.Names.{key-keeps}
 use Rattle.groupkeys.proofs.SameKey.{sameKey-sym}
@@ -180,17 +180,17 @@ free-keeps = refl
 -- the key of the names that a call is given
 pub named-keeps : (has : Bool) (o : List ℕ) (master : ℕ) → namedOf has o master .refusal ≡ 0 → keepsKey (namedOf has o master .key) ≡ true
 unfolding namedOf
-named-keeps has o master e = go (isOriginator has (given has o)) (isMaster master) refl refl e
+named-keeps has o master e = go (isOriginator has (lookedAt has o)) (isMaster master) refl refl e
   where
     named : Bool → Bool → Named
     named a b =
-        if no a then record { refusal = noCallsign; key = noKey } else if no b then record { refusal = fragmentMalformed; key = noKey } else record { refusal = 0; key = keyOf has (given has o) master }
+        if no a then record { refusal = noCallsign; key = noKey } else if no b then record { refusal = fragmentMalformed; key = noKey } else record { refusal = 0; key = keyOf has (lookedAt has o) master }
 
     room : (b : Bool) (s : List ℕ) → isOriginator b s ≡ true → length s ≤ 12
     room true s v = callsign-short s v
     room false s v = let z = eqb-true (length s) 0 v in omega arith
 
-    go : (a b : Bool) → isOriginator has (given has o) ≡ a → isMaster master ≡ b → named a b .refusal ≡ 0 → keepsKey (named a b .key) ≡ true
-    go true true p q z = key-keeps has (given has o) master p (room has (given has o) p) q
+    go : (a b : Bool) → isOriginator has (lookedAt has o) ≡ a → isMaster master ≡ b → named a b .refusal ≡ 0 → keepsKey (named a b .key) ≡ true
+    go true true p q z = key-keeps has (lookedAt has o) master p (room has (lookedAt has o) p) q
     go true false p q z = absurd (omega arith)
     go false b p q z = absurd (omega arith)

@@ -8,12 +8,6 @@ ghost use Rattle.groups.specs.Groups.{keepsPieces, joinedLength, storeSize};
 ghost use Rattle.fragments.specs.Store.{joined};
 use groups::Group;
 
-fn wide(x: u16) -> usize
-    ensures { λ r. ⌜ r ≡ x ⌝ }
-{
-    x as usize
-}
-
 // Writes the fragments 1 to M of group g, which is x, to the front of `out`.
 pub(crate) fn join(x: Group, g: usize, store: &[u8], out: &mut [u8])
     requires { ⌜ (g < 4) × (length (now store) ≡ storeSize) × (keepsPieces (x .total) 0 (x .pieces) ≡ true) × (joinedLength x ≤ length (now out)) ⌝ }
@@ -27,7 +21,7 @@ pub(crate) fn join(x: Group, g: usize, store: &[u8], out: &mut [u8])
             return;
         }
         let p = x.pieces[i];
-        let len = wide(p.len);
+        let len = lengths::wide16(p.len);
         let from = (16 * g + i) * groups::PLACE;
         octets::copy_at(&store[from..from + len], out, at);
         at += len;

@@ -1,4 +1,4 @@
--- Every add is one of three moves: a refusal, a fragment more in the group of its key, a group opened for an unknown key.
+-- Every add is one of three moves: a refusal, a fragment more in the group of its key, a group newGroup for an unknown key.
 -- The theorems of the calls are proved of the moves.
 use mathlib.Core.Path.{_≡_, refl, sym, ap, _∙_}
 use Prim.Native.Nat.{ℕ, suc, _+_, _-_, _≤_, _<_}
@@ -17,7 +17,7 @@ use Rattle.groups.specs.Groups.{storeSize, noPiece, freeGroup, isFree, hasKey, 
 use Rattle.groups.proofs.Search.{found-nothing, first-bound}
 use Rattle.groupcalls.specs.declared.Fragment.{Fragment}
 use Rattle.groupcalls.specs.Answer.{added, collected, Outcome, refuse}
-use Rattle.groupcalls.specs.Calls.{gate, inRange, addTo, opened, addIn, addBy, add, collectBy, collect}
+use Rattle.groupcalls.specs.Calls.{gate, inRange, addTo, newGroup, addIn, addBy, add, collectBy, collect}
 use Rattle.groupcalls.proofs.Tests.{Ranged, ranged, Kept, kept, pieces-kept, group-kept, Passed, passed}
 
 -- ---- what a search found
@@ -56,7 +56,7 @@ pub data Move (t : Groups) (size : ℕ) (named : Named) (f : Fragment) : Outcome
   joining : {g : ℕ} → Kept t → size ≡ storeSize → Ranged f → g < 4 → hasKey (named .key) (groupAt t g) ≡ true → groupAt t g .total ≡ f .total
       → getD (groupAt t g .pieces) (f .number - 1) noPiece .held ≡ false → Move t size named f (addTo t g (groupAt t g) f)
   opening : {g : ℕ} → Kept t → size ≡ storeSize → Ranged f → g < 4 → groupAt t g .used ≡ false → some (hasKey (named .key)) (t .items) ≡ false → named .refusal ≡ 0
-      → Move t size named f (addTo t g (opened (named .key) f) f)
+      → Move t size named f (addTo t g (newGroup (named .key) f) f)
 
 pub add-moves : (t : Groups) (size : ℕ) (named : Named) (f : Fragment) → Move t size named f (add t size named f)
 unfolding add

@@ -47,12 +47,12 @@ addAt t g f =
     else addTo t g (groupAt t g) f
 
 -- a group that opens with this fragment: no fragment is held yet
-abbrev pub opened : Key → Fragment → Group
-opened k f = record { used = true; key = k; total = f .total; began = f .time; pieces = replicate 16 noPiece }
+abbrev pub newGroup : Key → Fragment → Group
+newGroup k f = record { used = true; key = k; total = f .total; began = f .time; pieces = replicate 16 noPiece }
 
 -- a new group takes the lowest free one, if there is one (20)
 abbrev pub addIn : Groups → Key → Fragment → Found → Outcome
-addIn t k f (Found.At g) = addTo t g (opened k f) f
+addIn t k f (Found.At g) = addTo t g (newGroup k f) f
 addIn t k f Found.Nothing = refuse noFreeGroup t
 
 abbrev pub addNew : Groups → Key → Fragment → Outcome

@@ -4,15 +4,15 @@ use Prim.Native.Nat.{ℕ, zero, suc, _+_, _-_, _≤_}
 use native.Mathlib.Omega.{arith}
 use mathlib.Core.Bool.{Bool, true}
 use mathlib.Core.List.{List}
-use lib.ListN.{length, drop, replicate, length-append, length-drop, length-replicate, drop-of-length-le}
+use lib.ListN.{length, drop, replicate, length-append, length-drop, length-replicate}
 use lib.Seq.{take-append-seam, drop-append-seam}
 use borrow.Author.Tests.{eq-eqb, le-leb}
 use Rattle.octets.specs.Words.{_and_}
-use Rattle.octets.specs.Bytes.{front, placed}
+use Rattle.octets.specs.Bytes.{allZero, front, placed}
 use Rattle.octets.proofs.Tests.{and-both}
 use Rattle.octets.proofs.Lists.{placed-in}
 use Rattle.groupkeys.specs.declared.Key.{Key}
-use Rattle.groupkeys.specs.Key.{isOriginator, isMaster, zeros, keepsKey, keyOf}
+use Rattle.groupkeys.specs.Key.{isOriginator, isMaster, keepsKey, keyOf}
 
 -- the code's key is that of its originator and master id
 pub key-is : (o a : List ℕ) (master : ℕ) → a ≡ placed o 0 (replicate 12 0) → length o ≤ 12
@@ -23,11 +23,7 @@ key-is o a master p h =
     let x : a ≡ front o (replicate 12 0) = p ∙ placed-in o 0 (replicate 12 0) (omega arith) ∙ rw z in
     λ i. record { «has_originator» = true; originator = x i; «originator_len» = length o; master = master }
 
--- past its end a list has no byte that is not zero
-pub zero-past : (l : List ℕ) (i : ℕ) → length l ≤ i → zeros (drop i l) ≡ true
-zero-past l i h = ap zeros (drop-of-length-le l {i = i} h)
-
-zeros-drop : (n m : ℕ) → zeros (drop n (replicate m 0)) ≡ true
+zeros-drop : (n m : ℕ) → allZero (drop n (replicate m 0)) ≡ true
 zeros-drop zero zero = refl
 zeros-drop zero (suc m) = zeros-drop zero m
 zeros-drop (suc n) zero = refl
@@ -41,4 +37,4 @@ key-keeps has o master v h m =
     length-append o _ ∙ ap (λ (k : ℕ). length o + k) (length-drop (length o) (replicate 12 0)) ∙ ap (λ (k : ℕ). length o + (k - length o)) (length-replicate {A = ℕ} 12 0) ∙ omega arith in
     and-both _ _ (eq-eqb _ _ l)
     (and-both _ _ (le-leb _ _ h)
-    (and-both _ _ (ap (isOriginator has) (take-append-seam o _) ∙ v) (and-both _ _ (ap zeros (drop-append-seam o _) ∙ zeros-drop (length o) 12) m)))
+    (and-both _ _ (ap (isOriginator has) (take-append-seam o _) ∙ v) (and-both _ _ (ap allZero (drop-append-seam o _) ∙ zeros-drop (length o) 12) m)))

@@ -3,9 +3,10 @@ use Prim.Native.Nat.{ℕ}
 use mathlib.Core.Bool.{Bool, false}
 use mathlib.Core.List.{List, []}
 use lib.ListN.{length, take, drop, replicate}
-use Rattle.octets.specs.Words.{if_then_else_, _and_, no, every, _<?_, _≤?_, _=?_}
-use Rattle.octets.specs.Bytes.{front}
+use Rattle.octets.specs.Words.{if_then_else_, _and_, no, _≤?_, _=?_}
+use Rattle.octets.specs.Bytes.{allZero, front}
 use Rattle.refusals.specs.Numbers.{noCallsign, fragmentMalformed}
+use Rattle.field_rules.specs.Rules.{idIn}
 use Rattle.callsigns.specs.Callsign.{callsign, sameCall}
 use Rattle.groupkeys.specs.declared.Key.{Key}
 use Rattle.groupkeys.specs.declared.Named.{Named}
@@ -22,17 +23,13 @@ sameOriginator j k = if j .«has_originator» then k .«has_originator» and sam
 unfoldable pub sameKey : Key → Key → Bool
 sameKey j k = j .master =? k .master and sameOriginator j k
 
--- a master id is 7 hex digits: a number below 2 ^ 28
+-- a master id is an id: 7 hex digits
 abbrev pub isMaster : ℕ → Bool
-isMaster n = n <? 268435456
+isMaster n = idIn n
 
 -- an originator is a callsign; an absent one has no bytes
 abbrev pub isOriginator : Bool → List ℕ → Bool
 isOriginator has s = if has then callsign s else length s =? 0
-
--- every byte is zero
-abbrev pub zeros : List ℕ → Bool
-zeros = every (λ x. x =? 0)
 
 -- the state rules of a key (40): the originator, where there is one, is a callsign, the bytes past it are zero, and the master id is one
 unfoldable pub keepsKey : Key → Bool
@@ -40,7 +37,7 @@ keepsKey k =
     length (k .originator) =? 12
     and k .«originator_len» ≤? 12
     and isOriginator (k .«has_originator») (originatorOf k)
-    and zeros (drop (k .«originator_len») (k .originator))
+    and allZero (drop (k .«originator_len») (k .originator))
     and isMaster (k .master)
 
 -- the key of an originator, [] where it is absent, and a master id
@@ -53,12 +50,12 @@ abbrev pub noKey : Key
 noKey = record { «has_originator» = false; originator = replicate 12 0; «originator_len» = 0; master = 0 }
 
 -- the originator that a call is given: where it is absent, its bytes are not looked at
-abbrev pub given : Bool → List ℕ → List ℕ
-given has s = if has then s else []
+abbrev pub lookedAt : Bool → List ℕ → List ℕ
+lookedAt has s = if has then s else []
 
 -- the key that a call is given, or the refusal: 8 where the originator is no callsign, then 17 where the master id is malformed
 unfoldable pub namedOf : Bool → List ℕ → ℕ → Named
 namedOf has originator master =
-    if no (isOriginator has (given has originator)) then record { refusal = noCallsign; key = noKey }
+    if no (isOriginator has (lookedAt has originator)) then record { refusal = noCallsign; key = noKey }
     else if no (isMaster master) then record { refusal = fragmentMalformed; key = noKey }
-    else record { refusal = 0; key = keyOf has (given has originator) master }
+    else record { refusal = 0; key = keyOf has (lookedAt has originator) master }

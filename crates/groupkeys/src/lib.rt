@@ -5,9 +5,6 @@ ghost use Rattle.groupkeys.specs.Key.{sameKey, keepsKey, noKey, namedOf}
 
 mod parts;
 
-// A master id is 7 hex digits: a number below this.
-pub(crate) const MASTER_END: u32 = 268435456;
-
 // A group's key: its originator, which may be absent, and its master id. The originator stands in the front of its array; the bytes past it are zero.
 pub struct Key {
     pub has_originator: bool,
@@ -57,7 +54,10 @@ pub fn same(a: Key, b: Key) -> bool
         }
         let n = a.originator_len;
         let m = b.originator_len;
-        return callsigns::same_call(parts::part(&a.originator, n), parts::part(&b.originator, m));
+        return callsigns::same_call(
+            lengths::part(&a.originator, n),
+            lengths::part(&b.originator, m),
+        );
     }
     if b.has_originator {
         return false;
@@ -73,11 +73,11 @@ pub fn keeps(k: Key) -> bool
     if n > 12 {
         return false;
     }
-    if !parts::is_originator(k.has_originator, parts::part(&k.originator, n)) {
+    if !parts::is_originator(k.has_originator, lengths::part(&k.originator, n)) {
         return false;
     }
-    if !parts::zero_from(&k.originator, n) {
+    if !lengths::zero_from(&k.originator, n) {
         return false;
     }
-    k.master < MASTER_END
+    field_rules::id_rule(k.master)
 }

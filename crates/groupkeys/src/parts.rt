@@ -3,34 +3,10 @@ ghost use mathlib.Core.Path.{_≡_};
 ghost use mathlib.Core.Bool.{true, false};
 ghost use mathlib.Core.List.{[]};
 ghost use Prim.Native.Nat.{_≤_};
-ghost use lib.ListN.{length, take, drop};
-ghost use Rattle.groupkeys.specs.Key.{isOriginator, zeros, keyOf, noKey, namedOf};
+ghost use lib.ListN.{length};
+ghost use Rattle.groupkeys.specs.Key.{isOriginator, keyOf, noKey, namedOf};
 use crate::Key;
 use crate::Named;
-
-// The first n bytes, or all where there are fewer.
-pub(crate) fn part(a: &[u8], n: usize) -> &[u8]
-    ensures { λ r. ⌜ now r ≡ take n (now (a .entry)) ⌝ }
-{
-    if a.len() < n {
-        return a;
-    }
-    &a[0..n]
-}
-
-// Whether the bytes from n on are all zero.
-pub(crate) fn zero_from(s: &[u8], n: usize) -> bool
-    ensures { λ r. ⌜ r ≡ zeros (drop n (now (s .entry))) ⌝ }
-{
-    let mut i = n;
-    while i < s.len() {
-        if s[i] != 0 {
-            return false;
-        }
-        i += 1;
-    }
-    true
-}
 
 // A refusal of the names that a call is given.
 fn unnamed(n: u8) -> Named
@@ -64,7 +40,7 @@ pub(crate) fn present(originator: &[u8], master: u32) -> Named
     if !callsigns::is_callsign(originator) {
         return unnamed(refusals::NO_CALLSIGN);
     }
-    if master >= crate::MASTER_END {
+    if !field_rules::id_rule(master) {
         return unnamed(refusals::FRAGMENT_MALFORMED);
     }
     let key = key_of(originator, master);
@@ -78,7 +54,7 @@ pub(crate) fn present(originator: &[u8], master: u32) -> Named
 pub(crate) fn absent(master: u32) -> Named
     ensures { λ r. ⌜ r ≡ namedOf false [] master ⌝ }
 {
-    if master >= crate::MASTER_END {
+    if !field_rules::id_rule(master) {
         return unnamed(refusals::FRAGMENT_MALFORMED);
     }
     let key = Key {

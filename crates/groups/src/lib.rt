@@ -137,7 +137,7 @@ pub fn joined_length(x: Group) -> usize
             return sum;
         }
         let p = x.pieces[i];
-        sum += rules::wide(p.len);
+        sum += lengths::wide16(p.len);
         i += 1;
     }
     sum

@@ -9,12 +9,6 @@ use crate::Groups;
 use crate::Piece;
 use groupkeys::Key;
 
-pub(crate) fn wide(x: u16) -> usize
-    ensures { λ r. ⌜ (r ≡ x) × (r < 65536) ⌝ }
-{
-    x as usize
-}
-
 pub(crate) fn has_key(key: Key, x: Group) -> bool
     ensures { λ r. ⌜ r ≡ hasKey key x ⌝ }
 {
@@ -34,7 +28,7 @@ fn keeps_piece(total: usize, n: usize, p: Piece) -> bool
     if n >= total {
         return false;
     }
-    wide(p.len) <= crate::PLACE
+    lengths::wide16(p.len) <= crate::PLACE
 }
 
 fn keep_pieces(x: Group) -> bool

@@ -40,13 +40,14 @@ returns-3 c =
 returns-4 : tie.Need-returns-4
 unfolding keepsKey
 returns-4 c =
-    let at-start = c .before .before .before .before .before .before .before .before .before .before .before .before in
-    let at-if1 = c .before .before .before .before .before .before .before .before .before .before .before .if1 in
-    let at-args = c .before .before .before .before .before .before .before .before .before .before .before .before .args in
-    let at-part = c .before .before .before .before .before .before .before .part in
-    let at-is-originator = c .before .before .before .before .before .before .is-originator in
-    let at-if2 = c .before .before .before .before .before .if2 in
-    sym (and-next _ _ (long (at-start)) ∙ and-next _ _ (le-leb _ _ (at-if1 .left)) ∙ and-next _ _ (ap (isOriginator (at-args .t1 .«has_originator»)) (sym (at-part .ensures)) ∙ sym (at-is-originator .ensures) ∙ not-false _ (at-if2 .left)) ∙ and-next _ _ (sym (c .before .zero-from .ensures) ∙ not-false _ (c .if3 .left)))
+    let at-start = c .before .before .before .before .before .before .before .before .before .before .before .before .before in
+    let at-if1 = c .before .before .before .before .before .before .before .before .before .before .before .before .if1 in
+    let at-args = c .before .before .before .before .before .before .before .before .before .before .before .before .before .args in
+    let at-part = c .before .before .before .before .before .before .before .before .part in
+    let at-is-originator = c .before .before .before .before .before .before .before .is-originator in
+    let at-if2 = c .before .before .before .before .before .before .if2 in
+    let at-zero-from = c .before .before .zero-from in
+    sym (and-next _ _ (long (at-start)) ∙ and-next _ _ (le-leb _ _ (at-if1 .left)) ∙ and-next _ _ (ap (isOriginator (at-args .t1 .«has_originator»)) (sym (at-part .ensures)) ∙ sym (at-is-originator .ensures) ∙ not-false _ (at-if2 .left)) ∙ and-next _ _ (sym (at-zero-from .ensures) ∙ not-false _ (c .before .if3 .left)) ∙ sym (c .id-rule .ensures))
 
 pub keeps-spec : {M : Type 1} → statement M
 keeps-spec =
@@ -58,4 +59,5 @@ keeps-spec =
     returns-2
     (λ c κs. search needs)
     returns-3
+    (λ c κs. search needs)
     returns-4)

@@ -1,6 +1,5 @@
 -- The originator stands in the front of zeros.
 use borrow.Author.Needs.{needs}
-use Rattle.groupkeys.specs.Key.{zeros}
 use Rattle.groupkeys.proofs.Names.{key-is}
 use Rattle.groupkeys.proofs.parts.key_of.Statement.{statement}
 use Rattle.groupkeys.proofs.parts.key_of.Tie as tie

@@ -1,7 +1,7 @@
 -- 8, then 17, then the key.
 use mathlib.Core.Path.{sym, _∙_}
 use borrow.Author.Needs.{needs}
-use borrow.Author.Tests.{lt-ltb, le-ltb, not-true, not-false}
+use borrow.Author.Tests.{not-true, not-false}
 use Rattle.octets.proofs.Tests.{if-yes, if-no, no-true, no-false}
 use Rattle.callsigns.proofs.Lengths.{callsign-short}
 use Rattle.groupkeys.specs.Key.{namedOf}
@@ -17,21 +17,24 @@ returns c =
 returns-2 : tie.Need-returns-2
 unfolding namedOf
 returns-2 c =
-    let at-is-callsign = c .before .before .before .is-callsign in
-    let at-if1 = c .before .before .if1 in
-    c .unnamed2 .ensures ∙ sym (if-no _ _ _ (no-true _ (sym (at-is-callsign .ensures) ∙ not-false _ (at-if1 .left))) ∙ if-yes _ _ _ (no-false _ (le-ltb _ _ (c .before .if2 .taken))))
+    let at-is-callsign = c .before .before .before .before .is-callsign in
+    let at-if1 = c .before .before .before .if1 in
+    let at-id-rule = c .before .before .id-rule in
+    c .unnamed2 .ensures ∙ sym (if-no _ _ _ (no-true _ (sym (at-is-callsign .ensures) ∙ not-false _ (at-if1 .left))) ∙ if-yes _ _ _ (no-false _ (sym (at-id-rule .ensures) ∙ not-true _ (c .before .if2 .taken))))
 
 key-of-requires : tie.Need-key-of-requires
 key-of-requires c κs =
-    let at-is-callsign = c .before .before .is-callsign in
-    callsign-short _ (sym (at-is-callsign .ensures) ∙ not-false _ (c .before .if1 .left))
+    let at-is-callsign = c .before .before .before .is-callsign in
+    let at-if1 = c .before .before .if1 in
+    callsign-short _ (sym (at-is-callsign .ensures) ∙ not-false _ (at-if1 .left))
 
 returns-3 : tie.Need-returns-3
 unfolding namedOf
 returns-3 c =
-    let at-is-callsign = c .before .before .before .is-callsign in
-    let at-if1 = c .before .before .if1 in
-    sym (if-no _ _ _ (no-true _ (sym (at-is-callsign .ensures) ∙ not-false _ (at-if1 .left))) ∙ if-no _ _ _ (no-true _ (lt-ltb _ _ (c .before .if2 .left))) ∙ rw (c .key-of .ensures))
+    let at-is-callsign = c .before .before .before .before .is-callsign in
+    let at-if1 = c .before .before .before .if1 in
+    let at-id-rule = c .before .before .id-rule in
+    sym (if-no _ _ _ (no-true _ (sym (at-is-callsign .ensures) ∙ not-false _ (at-if1 .left))) ∙ if-no _ _ _ (no-true _ (sym (at-id-rule .ensures) ∙ not-false _ (c .before .if2 .left))) ∙ rw (c .key-of .ensures))
 
 pub present-spec : {M : Type 1} → statement M
 present-spec =
@@ -40,6 +43,7 @@ present-spec =
     (λ c κs. search needs)
     (λ c κs. search needs)
     returns
+    (λ c κs. search needs)
     (λ c κs. search needs)
     returns-2
     key-of-requires

@@ -6,7 +6,7 @@ use borrow.Author.Needs.{needs}
 use lib.ListN.{length, drop}
 use Rattle.octets.specs.Words.{some}
 use Rattle.octets.proofs.Lists.{some-next, some-here}
-use Rattle.groups.specs.Groups.{noPiece, isHeld}
+use Rattle.groups.specs.Groups.{place, noPiece, isHeld}
 use Rattle.groups.proofs.Search.{unmapped, past}
 use Rattle.groups.proofs.rules.holds_some.Statement.{statement}
 use Rattle.groups.proofs.rules.holds_some.Tie as tie

@@ -5,7 +5,7 @@ use native.Mathlib.Omega.{arith}
 use borrow.Author.Needs.{needs}
 use borrow.Author.Tests.{not-true, not-false}
 use lib.ListN.{length, drop}
-use Rattle.groups.specs.Groups.{keepsPieces}
+use Rattle.groups.specs.Groups.{place, keepsPieces}
 use Rattle.groups.proofs.Search.{unmapped, past, pieces-not, pieces-next}
 use Rattle.groups.proofs.rules.keep_pieces.Statement.{statement}
 use Rattle.groups.proofs.rules.keep_pieces.Tie as tie

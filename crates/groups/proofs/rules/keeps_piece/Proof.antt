@@ -26,7 +26,7 @@ unfolding keepsPiece
 returns-3 c =
     let at-args = c .before .before .before .before .args in
     let at-if1 = c .before .before .if1 in
-    ap (λ (k : ℕ). k ≤? place) (c .wide .ensures .0) ∙ sym (if-yes _ _ _ (not-false (at-args .p .held) (at-if1 .left)) ∙ and-next _ _ (lt-ltb _ _ (c .before .if2 .left)))
+    ap (λ (k : ℕ). k ≤? place) (c .wide16 .ensures .0) ∙ sym (if-yes _ _ _ (not-false (at-args .p .held) (at-if1 .left)) ∙ and-next _ _ (lt-ltb _ _ (c .before .if2 .left)))
 
 pub keeps-piece-spec : {M : Type 1} → statement M
 keeps-piece-spec = tie.close (tie.spec returns returns-2 (λ c κs. search needs) returns-3)

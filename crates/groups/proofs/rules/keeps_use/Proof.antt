@@ -1,10 +1,10 @@
--- M and a fragment where the group is in use; zeros where it is free.
+-- M and a fragment where the group is in use; allZero where it is free.
 use mathlib.Core.Path.{sym, _∙_}
 use borrow.Author.Needs.{needs}
 use borrow.Author.Tests.{eq-eqb, ne-eqb}
 use Rattle.octets.specs.Words.{_and_}
 use Rattle.octets.proofs.Tests.{if-yes, if-no, and-next, and-not-left, no-true, no-false, inside, below, above}
-use Rattle.groupkeys.specs.Key.{zeros}
+use Rattle.octets.specs.Bytes.{allZero}
 use Rattle.groups.proofs.rules.keeps_use.Statement.{statement}
 use Rattle.groups.proofs.rules.keeps_use.Tie as tie
 
