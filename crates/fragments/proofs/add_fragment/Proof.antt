@@ -3,6 +3,7 @@ use mathlib.Core.Path.{sym, ap, _∙_}
 use native.Mathlib.Omega.{arith}
 use borrow.Author.Needs.{needs}
 use Rattle.octets.specs.Words.{_and_}
+use Rattle.groups.specs.Groups.{place}
 use Rattle.groupcalls.specs.Answer.{saying}
 use Rattle.fragments.specs.Store.{storeAfter}
 use Rattle.groupcalls.specs.declared.Answer.{Answer}
