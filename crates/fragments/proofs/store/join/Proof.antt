@@ -68,7 +68,7 @@ loop-again c =
     let e = fragments-next (x .total) (x .pieces) (at-loop .i) (omega arith) (omega arith) in
     let b = ap bytesIn e in
     let l = length-rest (at-args .store .now) (at-args .g) (at-pre .0) (at-pre .1) x (at-loop .i + 1) (omega arith) (at-loop .inv .0) (at-pre .2) in
-    let w = part-bytes (at-args .store .now) (at-args .g) (at-loop .i) (getD (x .pieces) (at-loop .i) noPiece) (at-wide16 .result) (at-pre .0) (omega arith) (at-pre .1) q (at-wide16 .ensures) in
+    let w = part-bytes (at-args .store .now) (at-args .g) (at-loop .i) (getD (x .pieces) (at-loop .i) noPiece) (at-wide16 .result) (at-pre .0) (omega arith) (at-pre .1) q (at-wide16 .ensures .0) in
     let from = (16 * at-args .g + at-loop .i) * place in
     let n = join-next (at-args .store .now) (at-args .g) (at-loop .i) (at-loop .at) (at-wide16 .result) (drop (at-loop .i) (fragments x)) (drop (at-loop .i + 1) (fragments x)) (getD (x .pieces) (at-loop .i) noPiece) (take (from + at-wide16 .result - from) (drop from (at-args .store .now))) (at-loop .out) _ e (w .0) (at-copy-at .ensures .1) (w .1) (omega arith) in
     (at-loop .inv .0, n .0 ∙ at-loop .inv .1, omega arith, n .1 ∙ at-loop .inv .3, search needs)
