@@ -1,5 +1,6 @@
 //! The stack that each of the host's calls needs: the call is made on a thread whose stack is painted first, and what is not painted any
-//! more afterwards was used. A call's figure has the frame of whoever makes it, with the states that go in and come out by value.
+//! more afterwards was used. A figure has the frame of whoever makes the call in it, with each state that goes in and comes out by value:
+//! a table takes 16 KB, so two calls on a table after one another show some 32 KB that are the caller's.
 use std::hint::black_box;
 
 extern "C" {
@@ -66,25 +67,25 @@ pub fn print() {
     let peer = [b"help\nihave f628422 len=5 fmt=p s=1714982400000 dst=mail@G0RCV\ndata f628422\nhello".as_slice(), b"quit\n"].concat();
     let (mut out, mut store, mut payload, mut reply) = (vec![0u8; 16384], vec![0u8; 65536], vec![0u8; 4096], vec![0u8; 24]);
     unsafe {
-        measure("message_id", || drop(black_box(job_id(line.as_ptr(), line.len()))));
-        measure("crc", || drop(black_box(job_crc(line.as_ptr(), line.len()))));
-        measure("well_formed", || drop(black_box(job_utf8(line.as_ptr(), line.len()))));
-        measure("read_line", || drop(black_box(job_line(line.as_ptr(), line.len()))));
-        measure("read_line, then write_line", || drop(black_box(job_reline(line.as_ptr(), line.len(), out.as_mut_ptr(), 16384))));
-        measure("read_datagram", || drop(black_box(job_datagram(datagram.as_ptr(), datagram.len()))));
-        measure("read_datagram, then write_datagram", || drop(black_box(job_redatagram(datagram.as_ptr(), datagram.len(), out.as_mut_ptr(), 16384))));
-        measure("open_session", || drop(black_box(stack_open(reply.as_mut_ptr(), 24))));
-        measure("feed", || drop(black_box(job_bytes(peer.as_ptr(), peer.len(), payload.as_mut_ptr(), reply.as_mut_ptr()))));
-        measure("Table::new, open_rows", || drop(black_box(stack_new())));
-        measure("offer", || drop(black_box(stack_offer())));
-        measure("take", || drop(black_box(stack_take())));
-        measure("force", || drop(black_box(stack_force())));
-        measure("close", || drop(black_box(stack_close())));
-        measure("row_at", || drop(black_box(stack_row_at())));
-        measure("save", || drop(black_box(stack_save(out.as_mut_ptr(), 16384))));
-        measure("load", || drop(black_box(stack_load(image.as_ptr(), image.len()))));
-        measure("add_fragment", || drop(black_box(stack_add(store.as_mut_ptr(), 65536))));
-        measure("collect_group", || drop(black_box(stack_collect(store.as_mut_ptr(), 65536, out.as_mut_ptr(), 16384))));
-        measure("sweep_groups", || drop(black_box(stack_sweep())));
+        measure("message_id", || { black_box(job_id(line.as_ptr(), line.len())); });
+        measure("crc", || { black_box(job_crc(line.as_ptr(), line.len())); });
+        measure("well_formed", || { black_box(job_utf8(line.as_ptr(), line.len())); });
+        measure("read_line", || { black_box(job_line(line.as_ptr(), line.len())); });
+        measure("read_line, then write_line", || { black_box(job_reline(line.as_ptr(), line.len(), out.as_mut_ptr(), 16384)); });
+        measure("read_datagram", || { black_box(job_datagram(datagram.as_ptr(), datagram.len())); });
+        measure("read_datagram, then write_datagram", || { black_box(job_redatagram(datagram.as_ptr(), datagram.len(), out.as_mut_ptr(), 16384)); });
+        measure("open_session", || { black_box(stack_open(reply.as_mut_ptr(), 24)); });
+        measure("feed", || { black_box(job_bytes(peer.as_ptr(), peer.len(), payload.as_mut_ptr(), reply.as_mut_ptr())); });
+        measure("Table::new, open_rows", || { black_box(stack_new()); });
+        measure("offer", || { black_box(stack_offer()); });
+        measure("offer, then take", || { black_box(stack_take()); });
+        measure("offer, then force", || { black_box(stack_force()); });
+        measure("offer, take, then close", || { black_box(stack_close()); });
+        measure("offer, then row_at", || { black_box(stack_row_at()); });
+        measure("save", || { black_box(stack_save(out.as_mut_ptr(), 16384)); });
+        measure("load", || { black_box(stack_load(image.as_ptr(), image.len())); });
+        measure("add_fragment", || { black_box(stack_add(store.as_mut_ptr(), 65536)); });
+        measure("add_fragment twice, then collect_group", || { black_box(stack_collect(store.as_mut_ptr(), 65536, out.as_mut_ptr(), 16384)); });
+        measure("sweep_groups", || { black_box(stack_sweep()); });
     }
 }
