@@ -118,7 +118,9 @@ fn image(rows: usize, full: bool) -> Vec<u8> {
     let mut table = streams::Table::new();
     for row in 0..rows {
         let stream = format!("relay{row}").into_bytes();
-        let mut offer = |n| drop(table.offer(b"G0ORIG", &stream, streams::Held { number: n, timeout: 600, slip: n }, 1000));
+        let mut offer = |n| {
+            let _ = table.offer(b"G0ORIG", &stream, streams::Held { number: n, timeout: 600, slip: n }, 1000);
+        };
         (1..if full { 17 } else { 2 }).for_each(&mut offer);
         let _ = table.take(b"G0ORIG", &stream, 1000, false);
     }

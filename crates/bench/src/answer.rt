@@ -19,15 +19,19 @@ pub(crate) fn say(a: Answer) {
 
 // A text alone.
 pub(crate) fn said(text: &[u8]) -> Answer {
-    Answer::new().text(text)
+    let none = Answer {
+        bytes: [0u8; ROOM],
+        len: 0,
+    };
+    none.text(text)
 }
 
 pub(crate) fn refused(number: u8) -> Answer {
-    Answer::new().keyed(b"refused ", number as u32)
+    said(b"refused ").number(number as u64)
 }
 
 pub(crate) fn unwritten(number: u8) -> Answer {
-    Answer::new().keyed(b"unwritten ", number as u32)
+    said(b"unwritten ").number(number as u64)
 }
 
 pub(crate) fn bad() -> Answer {
@@ -35,35 +39,23 @@ pub(crate) fn bad() -> Answer {
 }
 
 impl Answer {
-    pub(crate) fn new() -> Answer {
-        Answer {
-            bytes: [0u8; ROOM],
-            len: 0,
-        }
-    }
-
-    // Writes what is not written yet.
-    fn written(mut self) -> Answer {
-        let bytes = self.bytes;
-        write_front(&bytes, self.len);
-        self.len = 0;
-        self
-    }
-
-    pub(crate) fn byte(self, b: u8) -> Answer {
+    pub(crate) fn byte(mut self, b: u8) -> Answer {
         let n = self.len;
-        if n >= ROOM {
-            return self.written().byte_at(0, b);
-        }
-        self.byte_at(n, b)
-    }
-
-    fn byte_at(mut self, n: usize, b: u8) -> Answer {
         if n < ROOM {
             self.bytes[n] = b;
             self.len = n + 1;
+            return self;
         }
+        self.written();
+        self.bytes[0] = b;
+        self.len = 1;
         self
+    }
+
+    // Writes what is not written yet.
+    fn written(self) {
+        let bytes = self.bytes;
+        write_front(&bytes, self.len);
     }
 
     // Bytes as they are.
@@ -91,11 +83,6 @@ impl Answer {
         self.text(&digits[..k])
     }
 
-    // Eight digits of `0-9a-f`.
-    pub(crate) fn word(self, x: u32) -> Answer {
-        self.hex(x as u64, 8)
-    }
-
     // A decimal behind its key.
     pub(crate) fn keyed(self, key: &[u8], n: u32) -> Answer {
         self.text(key).number(n as u64)
@@ -108,14 +95,10 @@ impl Answer {
 
     // A signed decimal.
     pub(crate) fn signed(self, v: i64) -> Answer {
-        self.minus(v).number(magnitude(v))
-    }
-
-    fn minus(self, v: i64) -> Answer {
         if v < 0 {
-            return self.byte(b'-');
+            return self.byte(b'-').number(magnitude(v));
         }
-        self
+        self.number(magnitude(v))
     }
 
     // `%XX`, in capitals.

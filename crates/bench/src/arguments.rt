@@ -71,11 +71,7 @@ fn with_bytes(c: Command, word: &mut [u8], at: usize, most: usize) -> Command {
             if len > most {
                 return Command::new(BAD);
             }
-            c.with_place(Place {
-                given: true,
-                at,
-                len,
-            })
+            c.with_place(Place { at, len })
         }
         Decoded::Malformed => Command::new(BAD),
     }
@@ -83,11 +79,7 @@ fn with_bytes(c: Command, word: &mut [u8], at: usize, most: usize) -> Command {
 
 fn with_optional(c: Command, word: &mut [u8], at: usize) -> Command {
     if is_byte(word, b'~') {
-        return c.with_place(Place {
-            given: false,
-            at: 0,
-            len: 0,
-        });
+        return c.without_first();
     }
     with_bytes(c, word, at, LONGEST_NAME)
 }

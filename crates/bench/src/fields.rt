@@ -15,32 +15,24 @@ use node::StreamText;
 // FIELDS of a line.
 pub(crate) fn put_line(a: Answer, m: Line) -> Answer {
     let f = m.fields;
-    let b = put_numbers(a.id(b" id=", f.id).keyed(b" len=", m.len), f);
-    let c = put_groups(put_src(b, f), f);
-    put_dst(c, f.dst)
+    let b = put_salt(
+        a.id(b" id=", f.id).keyed(b" len=", m.len),
+        f.has_salt,
+        f.salt,
+    );
+    let c = put_number(b, f.has_ttl, b" ttl=", f.ttl);
+    let d = put_groups(put_call(c, f.has_src, b" src=", f.src), f);
+    put_dst(d, f.dst)
 }
 
 // `ok` and the FIELDS of a datagram.
 pub(crate) fn put_datagram(m: Datagram, at: usize, len: usize) -> Answer {
     let f = m.fields;
-    let a = put_numbers(answer::said(b"ok").id(b" id=", f.id), f);
-    let b = put_way(put_src(put_dst(a, f.dst), f), m);
-    put_payload(put_groups(b, f), at, len)
-}
-
-fn put_payload(a: Answer, at: usize, len: usize) -> Answer {
-    a.text(b" payload=")
-        .number(at as u64)
-        .byte(b'+')
-        .number(len as u64)
-}
-
-fn put_numbers(a: Answer, f: Envelope) -> Answer {
-    put_ttl(put_salt(a, f.has_salt, f.salt), f.has_ttl, f.ttl)
-}
-
-fn put_src(a: Answer, f: Envelope) -> Answer {
-    put_call(a, f.has_src, b" src=", f.src)
+    let a = put_salt(answer::said(b"ok").id(b" id=", f.id), f.has_salt, f.salt);
+    let b = put_dst(put_number(a, f.has_ttl, b" ttl=", f.ttl), f.dst);
+    let c = put_way(put_call(b, f.has_src, b" src=", f.src), m);
+    let d = put_groups(c, f).text(b" payload=");
+    d.number(at as u64).byte(b'+').number(len as u64)
 }
 
 pub(crate) fn put_salt(a: Answer, on: bool, salt: i64) -> Answer {
@@ -50,11 +42,11 @@ pub(crate) fn put_salt(a: Answer, on: bool, salt: i64) -> Answer {
     a.text(b" s=").signed(salt)
 }
 
-fn put_ttl(a: Answer, on: bool, ttl: u32) -> Answer {
+fn put_number(a: Answer, on: bool, key: &[u8], n: u32) -> Answer {
     if !on {
         return a;
     }
-    a.keyed(b" ttl=", ttl)
+    a.keyed(key, n)
 }
 
 fn put_dst(a: Answer, t: AddressText) -> Answer {
@@ -132,16 +124,9 @@ fn put_way(a: Answer, m: Datagram) -> Answer {
     let route = m.route;
     let hops = m.hops;
     let o = put_call(a, m.has_link, b" link=", link);
-    let p = put_flood(o, m.has_flood, m.flood);
+    let p = put_number(o, m.has_flood, b" flood=", m.flood as u32);
     let q = put_hops(p, m.has_route, b" route=", route);
     put_hops(q, m.has_hops, b" hops=", hops)
-}
-
-fn put_flood(a: Answer, on: bool, flood: u8) -> Answer {
-    if !on {
-        return a;
-    }
-    a.keyed(b" flood=", flood as u32)
 }
 
 // A list of hops, a comma between; `-` where it is empty.
@@ -156,21 +141,18 @@ fn put_hops(a: Answer, on: bool, key: &[u8], h: Hops) -> Answer {
     let mut o = a.text(key);
     let mut i: usize = 0;
     while i < n {
-        o = put_hop(o, i, hop_at(h, i));
+        o = put_hop(o, h, i);
         i += 1;
     }
     o
 }
 
-fn hop_at(h: Hops, i: usize) -> CallText {
-    if i < 16 {
-        return h.items[i];
-    }
-    h.items[0]
-}
-
 // A comma stands before every hop but the first.
-fn put_hop(a: Answer, i: usize, t: CallText) -> Answer {
+fn put_hop(a: Answer, h: Hops, i: usize) -> Answer {
+    if i >= 16 {
+        return a;
+    }
+    let t = h.items[i];
     if i == 0 {
         return put_call(a, true, b"", t);
     }

@@ -130,7 +130,7 @@ impl Search {
         if self.parted {
             return self;
         }
-        if is_capital(b) {
+        if b <= b'Z' && b >= b'A' {
             self.found = true;
             return self;
         }
@@ -146,10 +146,6 @@ impl Search {
         self.at = at + 1;
         self
     }
-}
-
-fn is_capital(b: u8) -> bool {
-    b >= b'A' && b <= b'Z'
 }
 
 // The command of the first form whose words the line begins with.

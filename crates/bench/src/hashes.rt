@@ -1,47 +1,40 @@
 // The commands on bytes alone: `sha1`, `crc`, `utf8` and `id`.
 use crate::answer;
 use crate::answer::Answer;
-use crate::command;
-use crate::command::Command;
 use node::Hash;
 use node::IdAnswer;
 use node::Salt;
 use node::Sha1;
 
-pub(crate) fn sha1(c: Command, line: &[u8]) -> Answer {
-    let bytes = command::bytes(line, c.places[0]);
+pub(crate) fn sha1(bytes: &[u8]) -> Answer {
     digest(Sha1::new().feed_all(bytes).finish())
 }
 
 fn digest(h: Hash) -> Answer {
-    Answer::new()
-        .word(h.a)
-        .word(h.b)
-        .word(h.c)
-        .word(h.d)
-        .word(h.e)
+    let a = answer::said(b"").hex(h.a as u64, 8).hex(h.b as u64, 8);
+    a.hex(h.c as u64, 8).hex(h.d as u64, 8).hex(h.e as u64, 8)
 }
 
-pub(crate) fn crc(c: Command, line: &[u8]) -> Answer {
-    let chk = node::crc(command::bytes(line, c.places[0]));
-    Answer::new().hex(chk as u64, 4)
+pub(crate) fn crc(bytes: &[u8]) -> Answer {
+    let chk = node::crc(bytes);
+    answer::said(b"").hex(chk as u64, 4)
 }
 
-pub(crate) fn utf8(c: Command, line: &[u8]) -> Answer {
-    if node::well_formed(command::bytes(line, c.places[0])) {
+pub(crate) fn utf8(bytes: &[u8]) -> Answer {
+    if node::well_formed(bytes) {
         return answer::said(b"yes");
     }
     answer::said(b"no")
 }
 
-pub(crate) fn id(c: Command, line: &[u8]) -> Answer {
+pub(crate) fn id(has_salt: bool, salt: i64, bytes: &[u8]) -> Answer {
     let salt = Salt {
-        given: c.has_salt,
-        value: c.salt,
+        given: has_salt,
+        value: salt,
     };
-    let id = node::message_id(salt, command::bytes(line, c.places[0]));
+    let id = node::message_id(salt, bytes);
     match id {
-        IdAnswer::Is(v) => Answer::new().id(b"id ", v),
+        IdAnswer::Is(v) => answer::said(b"").id(b"id ", v),
         IdAnswer::Refused(number) => answer::refused(number),
     }
 }

@@ -19,14 +19,6 @@ struct Input {
 }
 
 impl Input {
-    fn new() -> Input {
-        Input {
-            bytes: [0u8; PIECE],
-            at: 0,
-            end: 0,
-        }
-    }
-
     // Reads once more where nothing is left.
     fn filled(self) -> Input {
         if self.at < self.end {
@@ -103,20 +95,48 @@ fn keep(line: &mut [u8; 65536], len: usize, b: u8) -> usize {
     len + 1
 }
 
+// Where a script stands: the input that is left, what is kept, and whether the input has ended.
+struct Script {
+    input: Input,
+    kept: State,
+    ended: bool,
+}
+
 // Answers a whole script.
 pub(crate) fn run(line: &mut [u8; 65536], store: &mut [u8; 65536]) {
     let mut turns = u64::MAX;
-    let mut kept = state::fresh();
-    let mut input = Input::new();
+    let mut s = start();
     while turns > 0 {
-        let got = read_line(input, line);
-        kept = answer(line, got.len, kept, store);
-        if got.ended {
+        s = turn(s, line, store);
+        if s.ended {
             return;
         }
-        let rest = got.input;
-        input = rest;
         turns -= 1;
+    }
+}
+
+fn start() -> Script {
+    let input = Input {
+        bytes: [0u8; PIECE],
+        at: 0,
+        end: 0,
+    };
+    Script {
+        input,
+        kept: state::fresh(),
+        ended: false,
+    }
+}
+
+// Reads a line and answers it.
+fn turn(s: Script, line: &mut [u8; 65536], store: &mut [u8; 65536]) -> Script {
+    let got = read_line(s.input, line);
+    let kept = answer(line, got.len, s.kept, store);
+    let input = got.input;
+    Script {
+        input,
+        kept,
+        ended: got.ended,
     }
 }
 

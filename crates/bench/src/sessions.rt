@@ -1,8 +1,6 @@
 // `open` and `feed B`: the receiving session, one call a command. A call that is refused leaves the session.
 use crate::answer;
 use crate::answer::Answer;
-use crate::command;
-use crate::command::Command;
 use crate::command::within;
 use crate::fields;
 use crate::state::Done;
@@ -51,11 +49,11 @@ struct Fed {
 }
 
 // Before any `open` there is no session to feed.
-pub(crate) fn feed(c: Command, line: &[u8], kept: State) -> Done {
+pub(crate) fn feed(kept: State, piece: &[u8]) -> Done {
     if !kept.is_open {
         return kept.says(answer::bad());
     }
-    let fed = feed_lent(kept.session, command::bytes(line, c.places[0]), kept.lent);
+    let fed = feed_lent(kept.session, piece, kept.lent);
     let step = fed.step;
     let lent = fed.lent;
     with_session(kept, step.session).lends(lent, stepped(step, lent))

@@ -2,8 +2,7 @@
 use crate::answer;
 use crate::answer::Answer;
 use crate::arguments::LONGEST_BYTES;
-use crate::command;
-use crate::command::Command;
+use crate::command::room;
 use crate::state::Done;
 use crate::state::State;
 use node::Accepting;
@@ -28,57 +27,48 @@ fn accepting(answer: Accepting, accepted: &[u8]) -> Answer {
 
 fn giving(answer: Giving) -> Answer {
     match answer {
-        Giving::Given(number, slip) => Answer::new().keyed(b"given ", number).keyed(b" ", slip),
+        Giving::Given(number, slip) => answer::said(b"").keyed(b"given ", number).keyed(b" ", slip),
         Giving::Nothing => answer::said(b"nothing"),
         Giving::Refused(number) => answer::refused(number),
     }
 }
 
-pub(crate) fn offer(c: Command, line: &[u8], kept: State) -> Done {
-    let originator = command::bytes(line, c.places[0]);
-    let stream = command::bytes(line, c.places[1]);
-    let n = c.numbers;
+pub(crate) fn offer(kept: State, originator: &[u8], stream: &[u8], n: [u32; 4]) -> Done {
     let s = kept.table.offer(originator, stream, n[0], n[1], n[2], n[3]);
     let answer = s.answer;
     served(kept, s.table, accepting(answer, b"accepted"))
 }
 
-pub(crate) fn take(c: Command, line: &[u8], kept: State) -> Done {
-    let originator = command::bytes(line, c.places[0]);
-    let stream = command::bytes(line, c.places[1]);
-    let t = kept.table.take(originator, stream, c.numbers[0]);
+pub(crate) fn take(kept: State, originator: &[u8], stream: &[u8], n: [u32; 4]) -> Done {
+    let t = kept.table.take(originator, stream, n[0]);
     let answer = t.answer;
     served(kept, t.table, giving(answer))
 }
 
-pub(crate) fn force(c: Command, line: &[u8], kept: State) -> Done {
-    let originator = command::bytes(line, c.places[0]);
-    let stream = command::bytes(line, c.places[1]);
-    let t = kept.table.force(originator, stream, c.numbers[0]);
+pub(crate) fn force(kept: State, originator: &[u8], stream: &[u8], n: [u32; 4]) -> Done {
+    let t = kept.table.force(originator, stream, n[0]);
     let answer = t.answer;
     served(kept, t.table, giving(answer))
 }
 
-pub(crate) fn close(c: Command, line: &[u8], kept: State) -> Done {
-    let originator = command::bytes(line, c.places[0]);
-    let stream = command::bytes(line, c.places[1]);
+pub(crate) fn close(kept: State, originator: &[u8], stream: &[u8]) -> Done {
     let s = kept.table.close(originator, stream);
     let answer = s.answer;
     served(kept, s.table, accepting(answer, b"closed"))
 }
 
-pub(crate) fn save(c: Command, table: Table) -> Answer {
+pub(crate) fn save(table: Table, n: [u32; 4]) -> Answer {
     let mut bytes = [0u8; LONGEST_BYTES];
-    let k = command::within(command::size(c.numbers[0]), LONGEST_BYTES);
+    let k = room(n[0]);
     let saved = node::save(table, &mut bytes[0..k]);
     match saved {
-        Saved::Written(n) => answer::said(b"image ").room(&bytes, n),
+        Saved::Written(len) => answer::said(b"image ").room(&bytes, len),
         Saved::Refused(number) => answer::refused(number),
     }
 }
 
-pub(crate) fn load(c: Command, line: &[u8], kept: State) -> Done {
-    let l = node::load(kept.table, command::bytes(line, c.places[0]));
+pub(crate) fn load(kept: State, image: &[u8]) -> Done {
+    let l = node::load(kept.table, image);
     let answer = l.answer;
     served(kept, l.table, accepting(answer, b"loaded"))
 }

@@ -1,7 +1,7 @@
 -- Each turn reads a byte of the forms.
 use Prim.Native.Nat.{_-_, _≤_}
-use borrow.Author.Needs.{needs}
 use mathlib.Core.Path.{_≡_}
+use borrow.Author.Needs.{needs}
 use lib.ListN.{length}
 use Rattle.bench.proofs.forms.parse_by.Statement.{statement}
 use Rattle.bench.proofs.forms.parse_by.Tie as tie

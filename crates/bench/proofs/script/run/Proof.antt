@@ -4,25 +4,19 @@ use Rattle.bench.proofs.script.run.Statement.{statement}
 use Rattle.bench.proofs.script.run.Tie as tie
 
 abbrev Inv-loop : tie.InvT-loop
-Inv-loop line₀ store₀ turns₀ kept₀ input₀ line store turns kept input = Unit {0}
+Inv-loop line₀ store₀ turns₀ s₀ line store turns s = Unit {0}
 
 abbrev μ-loop : tie.MeasureT-loop
-μ-loop line₀ store₀ turns₀ kept₀ input₀ line store turns kept input = turns
+μ-loop line₀ store₀ turns₀ s₀ line store turns s = turns
 
-fresh-requires : tie.Need-fresh-requires Inv-loop μ-loop
-fresh-requires c κs = tt
-
-new-requires : tie.Need-new-requires Inv-loop μ-loop
-new-requires c κs = tt
+start-requires : tie.Need-start-requires Inv-loop μ-loop
+start-requires c κs = tt
 
 loop-holds : tie.Need-loop-holds Inv-loop μ-loop
 loop-holds c = tt
 
-read-line-requires : tie.Need-read-line-requires Inv-loop μ-loop
-read-line-requires c κs = tt
-
-answer-requires : tie.Need-answer-requires Inv-loop μ-loop
-answer-requires c κs = tt
+turn-requires : tie.Need-turn-requires Inv-loop μ-loop
+turn-requires c κs = tt
 
 returns : tie.Need-returns Inv-loop μ-loop
 returns c = tt
@@ -45,11 +39,9 @@ run-spec =
     (tie.spec
     Inv-loop
     μ-loop
-    fresh-requires
-    new-requires
+    start-requires
     loop-holds
-    read-line-requires
-    answer-requires
+    turn-requires
     returns
     sub-turns
     loop-less

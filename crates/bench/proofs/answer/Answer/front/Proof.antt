@@ -5,10 +5,10 @@ use Rattle.bench.proofs.answer.Answer.front.Statement.{statement}
 use Rattle.bench.proofs.answer.Answer.front.Tie as tie
 
 abbrev Inv-loop : tie.InvT-loop
-Inv-loop s n k a₀ i₀ out i = i ≤ k
+Inv-loop s n k out₀ i₀ out i = i ≤ k
 
 abbrev μ-loop : tie.MeasureT-loop
-μ-loop s n k a₀ i₀ out i = k - i
+μ-loop s n k out₀ i₀ out i = k - i
 
 pub front-spec : {M : Type 1} → statement M
 front-spec =

@@ -6,10 +6,10 @@ use Rattle.bench.proofs.answer.Answer.text.Statement.{statement}
 use Rattle.bench.proofs.answer.Answer.text.Tie as tie
 
 abbrev Inv-loop : tie.InvT-loop
-Inv-loop s a₀ i₀ out i = i ≤ length s
+Inv-loop s out₀ i₀ out i = i ≤ length s
 
 abbrev μ-loop : tie.MeasureT-loop
-μ-loop s a₀ i₀ out i = length s - i
+μ-loop s out₀ i₀ out i = length s - i
 
 pub text-spec : {M : Type 1} → statement M
 text-spec =
