@@ -206,16 +206,11 @@ impl Bench {
             }
             [b"close", o, sid] => refused(self.table.close(&unescape(o, 512)?, &unescape(sid, 512)?), |()| "closed".into()),
             [b"save", room] => {
-                let (room, image) = (number(room, 16384)?, self.table.save());
-                Some(if image.len() > room { "refused 5".into() } else { format!("image {}", escape(&image)) })
+                let room = number(room, 16384)?;
+                let saved = self.table.save().and_then(|image| if image.len() > room { Err(5) } else { Ok(image) });
+                refused(saved, |image| format!("image {}", escape(&image)))
             }
-            [b"load", b] => Some(match Table::load(&bytes(b)?) {
-                Some(t) => {
-                    self.table = t;
-                    "loaded".into()
-                }
-                None => "refused 16".into(),
-            }),
+            [b"load", b] => refused(self.table.load(&bytes(b)?), |()| "loaded".into()),
             [b"fragment", o, mid, n, m, time, b] => {
                 let (o, mid) = (originator(o)?, master(mid)?);
                 let (n, m, time, b) = (number(n, 65535)? as u16, number(m, 65535)? as u16, n32(time)?, bytes(b)?);

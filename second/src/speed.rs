@@ -1,4 +1,5 @@
-//! Speed: the proved code, linked as a C library, against the second program, on the same bytes in the same run. `tools/speed` builds and runs it.
+//! Speed and stack: the proved code, linked as a C library, beside the second program, on the same bytes in the same run.
+//! `tools/speed` builds and runs it.
 #![allow(dead_code)]
 mod bench;
 mod datagram;
@@ -7,6 +8,7 @@ mod hash;
 mod message;
 mod names;
 mod session;
+mod stack;
 mod streams;
 
 use std::hint::black_box;
@@ -19,29 +21,35 @@ extern "C" {
     fn job_reline(bytes: *const u8, len: usize, out: *mut u8, room: usize) -> usize;
     fn job_datagram(bytes: *const u8, len: usize) -> usize;
     fn job_redatagram(bytes: *const u8, len: usize, out: *mut u8, room: usize) -> usize;
-    fn job_streams() -> usize;
+    fn job_calls(image: *const u8, len: usize, stream: *const u8, stream_len: usize, first: u32, rounds: u32) -> usize;
     fn job_image(bytes: *const u8, len: usize, out: *mut u8, room: usize) -> usize;
     fn job_session(offer: *const u8, offer_len: usize, data: *const u8, data_len: usize, bytes: *const u8, len: usize) -> usize;
+    fn job_bytes(bytes: *const u8, len: usize, payload: *mut u8, reply: *mut u8) -> usize;
 }
 
-/// The best of eleven runs of a job, in seconds.
-fn best(times: usize, mut job: impl FnMut() -> usize) -> f64 {
-    (0..11)
-        .map(|_| {
-            let start = Instant::now();
-            for _ in 0..times {
-                black_box(job());
-            }
-            start.elapsed().as_secs_f64()
-        })
-        .fold(f64::MAX, f64::min)
+/// One run of a job, in seconds for each time that it is done.
+fn once(times: usize, job: &mut impl FnMut() -> usize) -> f64 {
+    let start = Instant::now();
+    for _ in 0..times {
+        black_box(job());
+    }
+    start.elapsed().as_secs_f64() / times as f64
+}
+
+/// The best of thirty-one runs of each of two jobs, one after the other in turn, so that a busy moment of the machine meets both.
+fn best(times: usize, mut a: impl FnMut() -> usize, mut b: impl FnMut() -> usize) -> (f64, f64) {
+    (0..31).fold((f64::MAX, f64::MAX), |(x, y), _| (x.min(once(times, &mut a)), y.min(once(times, &mut b))))
+}
+
+fn print(name: &str, proved: f64, plain: f64) {
+    println!("| {name} | {:.2} | {:.2} | {:.2} |", proved * 1e6, plain * 1e6, proved / plain);
 }
 
 /// A line of the table. Both sides must come to the same number first.
 fn row(name: &str, times: usize, mut proved: impl FnMut() -> usize, mut plain: impl FnMut() -> usize) {
     assert_eq!(proved(), plain(), "{name}: the two sides differ");
-    let (p, q) = (best(times, &mut proved), best(times, &mut plain));
-    println!("| {name} | {:.2} |", p / q);
+    let (p, q) = best(times, proved, plain);
+    print(name, p, q);
 }
 
 fn filled(n: usize) -> Vec<u8> {
@@ -57,6 +65,20 @@ fn hashes() {
     row("CRC-16 of 512 bytes", 5000, || unsafe { job_crc(b.as_ptr(), b.len()) as usize }, || hash::crc16(&b) as usize);
 }
 
+/// 512 bytes of an `ihave` line that are short tokens with no value, all of different keys.
+fn hostile() -> Vec<u8> {
+    let mut line = b"ihave 7e1f3a2".to_vec();
+    let letters = || (b'a'..=b'z').chain(b'A'..=b'Z').chain(b'0'..=b'9');
+    let keys = letters().map(|a| vec![a]).chain(letters().flat_map(|a| letters().map(move |b| vec![a, b])));
+    for key in keys.filter(|k| k != b"s") {
+        line.push(b' ');
+        line.extend(&key);
+        line.push(b'=');
+    }
+    line.truncate(512);
+    line
+}
+
 fn lines() {
     let short: &[u8] = b"ihave 7e1f3a2 len=5 fmt=p s=1714982400000 dst=mail@G0RCV";
     let long: &[u8] = b"ihave d2e7f0a len=42 fmt=p s=1714982401000 ttl=600 src=G0ORIG mid=4cf02b1 frag=1/3 sid=chat sn=1 gt=600 priority=high contentType=text/plain dst=chat@G0RCV";
@@ -70,6 +92,8 @@ fn lines() {
             || message::read_line(l).and_then(|m| message::write_line(&m, 600)).map_or(0, |b| b.len()),
         );
     }
+    let l = hostile();
+    row("512 bytes of short tokens, all keys different", 500, || unsafe { job_line(l.as_ptr(), l.len()) as usize }, || message::read_line(&l).map_or(0, |m| m.len as usize));
 }
 
 fn datagrams() {
@@ -89,27 +113,48 @@ fn datagrams() {
     }
 }
 
-fn table() {
-    let turns = || {
-        let mut t = streams::Table::new();
-        for n in 1..5 {
-            let held = streams::Held { number: n, timeout: 600, slip: n };
-            let _ = t.offer(b"G0ORIG", b"relay1", held, 1000);
-            let _ = black_box(t.take(b"G0ORIG", b"relay1", 1000, false));
-        }
-        t.0.iter().flatten().count()
-    };
-    row("four offers and four takes on a new table", 200, || unsafe { job_streams() }, turns);
-    let mut full = streams::Table::new();
-    for row in 0..32 {
-        for n in 2..17 {
-            let _ = full.offer(b"G0ORIG", format!("relay{row}").as_bytes(), streams::Held { number: n, timeout: 600, slip: n }, 1000);
-        }
+/// The image of so many rows that expect 2 and hold 2 to 16, or that expect 1 and hold nothing.
+fn image(rows: usize, full: bool) -> Vec<u8> {
+    let mut table = streams::Table::new();
+    for row in 0..rows {
+        let stream = format!("relay{row}").into_bytes();
+        let mut offer = |n| {
+            let _ = table.offer(b"G0ORIG", &stream, streams::Held { number: n, timeout: 600, slip: n }, 1000);
+        };
+        (1..if full { 17 } else { 2 }).for_each(&mut offer);
+        let _ = table.take(b"G0ORIG", &stream, 1000, false);
     }
-    let image = full.save();
+    table.save().unwrap()
+}
+
+/// A call on a table: what two calls for each of a hundred rounds cost beyond the load of the image, for one call.
+fn calls(name: &str, image: &[u8], stream: &[u8], first: u32) {
+    let proved = |rounds| unsafe { job_calls(image.as_ptr(), image.len(), stream.as_ptr(), stream.len(), first, rounds) };
+    let plain = |rounds| {
+        let mut t = streams::Table::new();
+        let _ = t.load(image);
+        for n in first..first + rounds {
+            let _ = t.offer(b"G0ORIG", stream, streams::Held { number: n, timeout: 600, slip: n }, 1000);
+            let _ = black_box(t.take(b"G0ORIG", stream, 1000, false));
+        }
+        t.open_rows()
+    };
+    assert_eq!(proved(100), plain(100), "{name}: the two sides differ");
+    let (p, q) = best(5, || proved(100), || plain(100));
+    let (p0, q0) = best(5, || proved(0), || plain(0));
+    print(name, (p - p0) / 200.0, (q - q0) / 200.0);
+}
+
+fn table() {
+    calls("a call on a table of 1 open row", &image(1, false), b"relay0", 2);
+    let full = image(32, true);
+    calls("a call on a table of 32 full rows", &full, b"relay31", 17);
     let mut out = vec![0u8; 16384];
-    let again = || streams::Table::load(&image).map_or(0, |t| t.save().len());
-    row("an image of 32 full rows, loaded and saved", 20, || unsafe { job_image(image.as_ptr(), image.len(), out.as_mut_ptr(), 16384) }, again);
+    let again = || {
+        let mut t = streams::Table::new();
+        t.load(&full).and_then(|()| t.save()).map_or(0, |b| b.len())
+    };
+    row("an image of 32 full rows, loaded and saved", 20, || unsafe { job_image(full.as_ptr(), full.len(), out.as_mut_ptr(), 16384) }, again);
 }
 
 fn sessions() {
@@ -127,14 +172,35 @@ fn sessions() {
             s.feed(&payload, &mut buffer).2.len()
         };
         row(name, times, proved, plain);
+        let whole = [offer.as_slice(), &data, &payload].concat();
+        let (mut buffer, mut reply) = ([0u8; 4096], [0u8; 24]);
+        let proved = || unsafe { job_bytes(whole.as_ptr(), whole.len(), buffer.as_mut_ptr(), reply.as_mut_ptr()) };
+        let plain = || {
+            let mut buffer = [0u8; 4096];
+            let mut s = session::Session::open();
+            for byte in whole.chunks(1) {
+                black_box(s.feed(byte, &mut buffer));
+            }
+            0
+        };
+        row(&format!("{name}, byte by byte"), times / 10, proved, plain);
     }
 }
 
+fn processor() -> String {
+    let info = std::fs::read_to_string("/proc/cpuinfo").unwrap_or_default();
+    let name = info.lines().find(|l| l.starts_with("model name")).and_then(|l| l.split_once(": "));
+    name.map_or(std::env::consts::ARCH.into(), |(_, n)| n.into())
+}
+
 fn main() {
-    println!("| Job | Time of the proved code, where the second program's is 1 |\n|---|---|");
+    println!("On {}, in one run, the best of thirty-one:\n", processor());
+    println!("| Job | Proved, µs | The second program, µs | Ratio |\n|---|---|---|---|");
     hashes();
     lines();
     datagrams();
     table();
     sessions();
+    println!("\n| Call | Stack, KB |\n|---|---|");
+    stack::print();
 }

@@ -1,110 +1,45 @@
 // The commands on the lent buffers: `lend`, `store`, `fill` and `peek`.
-use crate::out;
-use crate::values;
-use crate::words;
+use crate::answer;
+use crate::answer::Answer;
+use crate::command::size;
+use crate::state::Done;
+use crate::state::Lent;
+use crate::state::PAYLOAD;
+use crate::state::REPLY;
+use crate::state::State;
 
-// How much of each buffer is lent.
-pub(crate) struct Lent {
-    pub(crate) payload: usize,
-    pub(crate) reply: usize,
-    pub(crate) store: usize,
+pub(crate) fn lend(kept: State, n: [u32; 4]) -> Done {
+    kept.lends(lengths(kept.lent, n), answer::said(b"lent"))
 }
 
-// What is lent after a command, and the length of its answer.
-pub(crate) struct Lending {
-    pub(crate) lent: Lent,
-    pub(crate) written: usize,
+fn lengths(lent: Lent, n: [u32; 4]) -> Lent {
+    let mut after = lent;
+    after.payload_len = size(n[0]);
+    after.reply_len = size(n[1]);
+    after
 }
 
-// The sizes of the payload buffer and of the reply buffer.
-pub(crate) const PAYLOAD: usize = 4096;
-
-pub(crate) const REPLY: usize = 64;
-
-// Whether a line is `lend` or `store`.
-pub(crate) fn is_lending(line: &[u8]) -> bool {
-    if words::is_command(line, b"lend", 3) {
-        return true;
-    }
-    words::is_command(line, b"store", 2)
+pub(crate) fn lend_store(kept: State, n: [u32; 4]) -> Done {
+    let mut after = kept;
+    after.store_lent = size(n[0]);
+    after.says(answer::said(b"lent"))
 }
 
-// The answer of a line that is one of them.
-pub(crate) fn answer(line: &[u8], lent: Lent, out: &mut [u8]) -> Lending {
-    if words::is_word(words::word(line, 0), b"lend") {
-        return lend_command(line, lent, out);
-    }
-    store_command(line, lent, out)
+// Every byte of the three buffers.
+pub(crate) fn fill(kept: State, store: &mut [u8], n: [u32; 4]) -> Done {
+    let b = (n[0] % 256) as u8;
+    fill_all(store, b);
+    kept.lends(filled(kept.lent, b), answer::said(b"filled"))
 }
 
-// `lend P R`.
-fn lend_command(line: &[u8], lent: Lent, out: &mut [u8]) -> Lending {
-    let p = values::size(words::word(line, 1), PAYLOAD as u64);
-    let r = values::size(words::word(line, 2), REPLY as u64);
-    if !p.ok {
-        return bad(lent);
-    }
-    if !r.ok {
-        return bad(lent);
-    }
-    let after = Lent {
-        payload: p.value,
-        reply: r.value,
-        store: lent.store,
-    };
-    Lending {
-        lent: after,
-        written: out::put_text(out, 0, b"lent"),
-    }
+fn filled(lent: Lent, b: u8) -> Lent {
+    let mut after = lent;
+    after.payload = [b; PAYLOAD];
+    after.reply = [b; REPLY];
+    after
 }
 
-// `store LEN`.
-fn store_command(line: &[u8], lent: Lent, out: &mut [u8]) -> Lending {
-    let n = values::size(words::word(line, 1), groups::STORE as u64);
-    if !n.ok {
-        return bad(lent);
-    }
-    let after = Lent {
-        payload: lent.payload,
-        reply: lent.reply,
-        store: n.value,
-    };
-    Lending {
-        lent: after,
-        written: out::put_text(out, 0, b"lent"),
-    }
-}
-
-fn bad(lent: Lent) -> Lending {
-    Lending {
-        lent: lent,
-        written: out::BAD_COMMAND,
-    }
-}
-
-// `fill N`: every byte of the three buffers.
-pub(crate) fn fill_command(
-    line: &[u8],
-    payload: &mut [u8],
-    reply: &mut [u8],
-    store: &mut [u8],
-    out: &mut [u8],
-) -> usize {
-    let n = values::number32(words::word(line, 1));
-    if !n.ok {
-        return out::BAD_COMMAND;
-    }
-    if n.value > 255 {
-        return out::BAD_COMMAND;
-    }
-    let b = n.value as u8;
-    fill(payload, b);
-    fill(reply, b);
-    fill(store, b);
-    out::put_text(out, 0, b"filled")
-}
-
-fn fill(s: &mut [u8], b: u8) {
+fn fill_all(s: &mut [u8], b: u8) {
     let mut i: usize = 0;
     while i < s.len() {
         s[i] = b;
@@ -112,44 +47,25 @@ fn fill(s: &mut [u8], b: u8) {
     }
 }
 
-// `peek BUFFER AT LEN`.
-pub(crate) fn peek_command(
-    line: &[u8],
-    payload: &[u8],
-    reply: &[u8],
-    store: &[u8],
-    out: &mut [u8],
-) -> usize {
-    let w = words::word(line, 1);
-    if words::is_word(w, b"payload") {
-        return peek(line, payload, out);
-    }
-    if words::is_word(w, b"reply") {
-        return peek(line, reply, out);
-    }
-    if words::is_word(w, b"store") {
-        return peek(line, store, out);
-    }
-    out::BAD_COMMAND
+pub(crate) fn peek_payload(lent: Lent, n: [u32; 4]) -> Answer {
+    let payload = lent.payload;
+    peek(&payload, n)
 }
 
-fn peek(line: &[u8], buffer: &[u8], out: &mut [u8]) -> usize {
-    let a = values::size(words::word(line, 2), 4294967295);
-    if !a.ok {
-        return out::BAD_COMMAND;
-    }
-    let l = values::size(words::word(line, 3), values::LONGEST_BYTES as u64);
-    if !l.ok {
-        return out::BAD_COMMAND;
-    }
-    let at = a.value;
-    let len = l.value;
+pub(crate) fn peek_reply(lent: Lent, n: [u32; 4]) -> Answer {
+    let reply = lent.reply;
+    peek(&reply, n)
+}
+
+// The bytes that a command asks for of a buffer.
+pub(crate) fn peek(buffer: &[u8], n: [u32; 4]) -> Answer {
+    let at = size(n[0]);
+    let len = size(n[1]);
     if at > buffer.len() {
-        return out::BAD_COMMAND;
+        return answer::bad();
     }
     if buffer.len() - at < len {
-        return out::BAD_COMMAND;
+        return answer::bad();
     }
-    let n = out::put_text(out, 0, b"bytes ");
-    out::put_bytes(out, n, &buffer[at..at + len])
+    answer::said(b"bytes ").front(&buffer[at..at + len], len)
 }

@@ -1,123 +1,160 @@
-// The fields that a line and a datagram share, as answers write them: ` key=value` for each that is there, from the place `at` of the answer
-// on. Every function answers the place behind what it wrote.
-use crate::out;
-use crate::values;
-use envelope::AddressText;
-use envelope::CallText;
-use envelope::Envelope;
-use envelope::StreamText;
-use headers::Header;
-use headers::Headers;
-use line::Line;
+// The fields of a line and of a datagram: ` key=value` for each that is there.
+use crate::answer;
+use crate::answer::Answer;
+use crate::command::within;
+use node::AddressText;
+use node::CallText;
+use node::Datagram;
+use node::Envelope;
+use node::Header;
+use node::Headers;
+use node::Hops;
+use node::Line;
+use node::StreamText;
 
-// The first `n` bytes behind their key.
-pub(crate) fn put_front(out: &mut [u8], at: usize, key: &[u8], bytes: &[u8], n: usize) -> usize {
-    let k = values::within(n, bytes.len());
-    let a = out::put_text(out, at, key);
-    out::put_bytes(out, a, &bytes[0..k])
-}
-
-pub(crate) fn put_id(out: &mut [u8], at: usize, key: &[u8], id: u32) -> usize {
-    let a = out::put_text(out, at, key);
-    out::put_id(out, a, id)
-}
-
-pub(crate) fn put_number(out: &mut [u8], at: usize, key: &[u8], n: u32) -> usize {
-    let a = out::put_text(out, at, key);
-    out::put_number(out, a, n as u64)
-}
-
-pub(crate) fn put_salt(out: &mut [u8], at: usize, on: bool, salt: i64) -> usize {
-    if !on {
-        return at;
-    }
-    let a = out::put_text(out, at, b" s=");
-    out::put_salt(out, a, salt)
-}
-
-pub(crate) fn put_ttl(out: &mut [u8], at: usize, on: bool, ttl: u32) -> usize {
-    if !on {
-        return at;
-    }
-    put_number(out, at, b" ttl=", ttl)
-}
-
-pub(crate) fn put_call(out: &mut [u8], at: usize, on: bool, key: &[u8], t: CallText) -> usize {
-    if !on {
-        return at;
-    }
-    let bytes = t.bytes;
-    put_front(out, at, key, &bytes, t.len)
-}
-
-pub(crate) fn put_dst(out: &mut [u8], at: usize, t: AddressText) -> usize {
-    let bytes = t.bytes;
-    put_front(out, at, b" dst=", &bytes, t.len)
-}
-
-fn put_fragment(out: &mut [u8], at: usize, on: bool, mid: u32, index: u16, total: u16) -> usize {
-    if !on {
-        return at;
-    }
-    let a = put_id(out, at, b" mid=", mid);
-    let b = put_number(out, a, b" frag=", index as u32);
-    put_number(out, b, b"/", total as u32)
-}
-
-fn put_stream(out: &mut [u8], at: usize, on: bool, sid: StreamText, sn: u32, gt: u32) -> usize {
-    if !on {
-        return at;
-    }
-    let bytes = sid.bytes;
-    let a = put_front(out, at, b" sid=", &bytes, sid.len);
-    let b = put_number(out, a, b" sn=", sn);
-    put_number(out, b, b" gt=", gt)
-}
-
-fn put_header(out: &mut [u8], at: usize, h: Header) -> usize {
-    let key = h.key;
-    let value = h.value;
-    let a = put_front(out, at, b" +", &key, h.key_len);
-    put_front(out, a, b"=", &value, h.value_len)
-}
-
-fn put_headers(out: &mut [u8], at: usize, h: Headers) -> usize {
-    let n = values::within(h.count, 8);
-    let mut a = at;
-    let mut i = 0;
-    while i < n {
-        let x = h.items[i];
-        a = put_header(out, a, x);
-        i += 1;
-    }
-    a
-}
-
-// The numbers at a line's front.
-fn put_offered(out: &mut [u8], at: usize, m: Line) -> usize {
+// FIELDS of a line.
+pub(crate) fn put_line(a: Answer, m: Line) -> Answer {
     let f = m.fields;
-    let a = put_id(out, at, b" id=", f.id);
-    let b = put_number(out, a, b" len=", m.len);
-    let c = put_salt(out, b, f.has_salt, f.salt);
-    put_ttl(out, c, f.has_ttl, f.ttl)
+    let b = put_salt(
+        a.id(b" id=", f.id).keyed(b" len=", m.len),
+        f.has_salt,
+        f.salt,
+    );
+    let c = put_number(b, f.has_ttl, b" ttl=", f.ttl);
+    let d = put_groups(put_call(c, f.has_src, b" src=", f.src), f);
+    put_dst(d, f.dst)
+}
+
+// `ok` and the FIELDS of a datagram.
+pub(crate) fn put_datagram(m: Datagram, at: usize, len: usize) -> Answer {
+    let f = m.fields;
+    let a = put_salt(answer::said(b"ok").id(b" id=", f.id), f.has_salt, f.salt);
+    let b = put_dst(put_number(a, f.has_ttl, b" ttl=", f.ttl), f.dst);
+    let c = put_way(put_call(b, f.has_src, b" src=", f.src), m);
+    let d = put_groups(c, f).text(b" payload=");
+    d.number(at as u64).byte(b'+').number(len as u64)
+}
+
+pub(crate) fn put_salt(a: Answer, on: bool, salt: i64) -> Answer {
+    if !on {
+        return a;
+    }
+    a.text(b" s=").signed(salt)
+}
+
+fn put_number(a: Answer, on: bool, key: &[u8], n: u32) -> Answer {
+    if !on {
+        return a;
+    }
+    a.keyed(key, n)
+}
+
+fn put_dst(a: Answer, t: AddressText) -> Answer {
+    let bytes = t.bytes;
+    a.text(b" dst=").front(&bytes, t.len)
+}
+
+fn put_call(a: Answer, on: bool, key: &[u8], t: CallText) -> Answer {
+    if !on {
+        return a;
+    }
+    let bytes = t.bytes;
+    a.text(key).front(&bytes, t.len)
 }
 
 // The fragment, the stream and the headers, which follow each other in a line as in a datagram.
-pub(crate) fn put_groups(out: &mut [u8], at: usize, f: Envelope) -> usize {
+fn put_groups(a: Answer, f: Envelope) -> Answer {
     let sid = f.sid;
     let headers = f.headers;
-    let a = put_fragment(out, at, f.has_fragment, f.mid, f.index, f.total);
-    let b = put_stream(out, a, f.has_stream, sid, f.sn, f.gt);
-    put_headers(out, b, headers)
+    let o = put_fragment(a, f.has_fragment, f.mid, f.index, f.total);
+    let p = put_stream(o, f.has_stream, sid, f.sn, f.gt);
+    put_headers(p, headers)
 }
 
-// FIELDS of a line, a space before each.
-pub(crate) fn put_line(out: &mut [u8], at: usize, m: Line) -> usize {
-    let f = m.fields;
-    let src = f.src;
-    let dst = f.dst;
-    let a = put_offered(out, at, m);
-    let b = put_call(out, a, f.has_src, b" src=", src);
-    let c = put_groups(out, b, f);
-    put_dst(out, c, dst)
+fn put_fragment(a: Answer, on: bool, mid: u32, index: u16, total: u16) -> Answer {
+    if !on {
+        return a;
+    }
+    a.id(b" mid=", mid)
+        .keyed(b" frag=", index as u32)
+        .keyed(b"/", total as u32)
+}
+
+fn put_stream(a: Answer, on: bool, sid: StreamText, sn: u32, gt: u32) -> Answer {
+    if !on {
+        return a;
+    }
+    let bytes = sid.bytes;
+    a.text(b" sid=")
+        .front(&bytes, sid.len)
+        .keyed(b" sn=", sn)
+        .keyed(b" gt=", gt)
+}
+
+fn put_headers(a: Answer, h: Headers) -> Answer {
+    let n = within(h.count, 8);
+    let mut o = a;
+    let mut i: usize = 0;
+    while i < n {
+        o = put_header(o, header_at(h, i));
+        i += 1;
+    }
+    o
+}
+
+fn header_at(h: Headers, i: usize) -> Header {
+    if i < 8 {
+        return h.items[i];
+    }
+    h.items[0]
+}
+
+fn put_header(a: Answer, h: Header) -> Answer {
+    let key = h.key;
+    let value = h.value;
+    a.text(b" +")
+        .front(&key, h.key_len)
+        .byte(b'=')
+        .front(&value, h.value_len)
+}
+
+// The fields that only a datagram has.
+fn put_way(a: Answer, m: Datagram) -> Answer {
+    let link = m.link;
+    let route = m.route;
+    let hops = m.hops;
+    let o = put_call(a, m.has_link, b" link=", link);
+    let p = put_number(o, m.has_flood, b" flood=", m.flood as u32);
+    let q = put_hops(p, m.has_route, b" route=", route);
+    put_hops(q, m.has_hops, b" hops=", hops)
+}
+
+// A list of hops, a comma between; `-` where it is empty.
+fn put_hops(a: Answer, on: bool, key: &[u8], h: Hops) -> Answer {
+    if !on {
+        return a;
+    }
+    if h.count == 0 {
+        return a.text(key).byte(b'-');
+    }
+    let n = within(h.count, 16);
+    let mut o = a.text(key);
+    let mut i: usize = 0;
+    while i < n {
+        o = put_hop(o, h, i);
+        i += 1;
+    }
+    o
+}
+
+// A comma stands before every hop but the first.
+fn put_hop(a: Answer, h: Hops, i: usize) -> Answer {
+    if i >= 16 {
+        return a;
+    }
+    let t = h.items[i];
+    if i == 0 {
+        return put_call(a, true, b"", t);
+    }
+    put_call(a, true, b",", t)
 }

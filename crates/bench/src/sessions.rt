@@ -1,131 +1,123 @@
-// `open` and `feed B`: the receiving session, one call a command. A call that is refused, and a command that is none, leave the session.
+// `open` and `feed B`: the receiving session, one call a command. A call that is refused leaves the session.
+use crate::answer;
+use crate::answer::Answer;
+use crate::command::within;
 use crate::fields;
-use crate::out;
-use crate::values;
-use crate::words;
-use line::Line;
-use session::Step;
-use session::Stepping;
-use talk::Event;
-use talk::Session;
-use talk::Terms;
+use crate::state::Done;
+use crate::state::Lent;
+use crate::state::State;
+use node::Event;
+use node::Line;
+use node::Opened;
+use node::Session;
+use node::Step;
+use node::Stepping;
+use node::Terms;
 
-// The session after a command, whether one was opened yet, and the answer's length.
-pub(crate) struct Talked {
-    pub(crate) session: Session,
-    pub(crate) is_open: bool,
-    pub(crate) written: usize,
-}
-
-// Whether a line is `open` or `feed`; before any `open` there is no session to feed.
-pub(crate) fn is_mine(line: &[u8], is_open: bool) -> bool {
-    if words::is_command(line, b"open", 1) {
-        return true;
-    }
-    if !is_open {
-        return false;
-    }
-    words::is_command(line, b"feed", 2)
-}
-
-// The answer of a line that is one of them, and the session after it.
-pub(crate) fn answer(
-    line: &[u8],
-    session: Session,
-    is_open: bool,
-    payload: &mut [u8],
-    reply: &mut [u8],
-    out: &mut [u8],
-) -> Talked {
-    if words::is_word(line, b"open") {
-        return open_command(session, is_open, reply, out);
-    }
-    feed_command(line, session, payload, reply, out)
-}
-
-fn open_command(session: Session, is_open: bool, reply: &mut [u8], out: &mut [u8]) -> Talked {
-    let opened = session::open_session(reply);
+pub(crate) fn open(kept: State) -> Done {
+    let mut lent = kept.lent;
+    let mut reply = lent.reply;
+    let opened = open_lent(&mut reply, lent.reply_len);
     let stepping = opened.stepping;
-    let fresh = opened.session;
+    lent.reply = reply;
     match stepping {
-        Stepping::Refused(number) => Talked {
-            session,
-            is_open,
-            written: out::refused(out, number),
-        },
-        Stepping::Went => Talked {
-            session: fresh,
-            is_open: true,
-            written: fields::put_front(out, 0, b"reply ", reply, opened.written),
-        },
+        Stepping::Went => with_session(kept, opened.session).lends(
+            lent,
+            answer::said(b"reply ").reply(&reply, opened.written),
+        ),
+        Stepping::Refused(number) => kept.says(answer::refused(number)),
     }
 }
 
-fn put_end(out: &mut [u8], at: usize, reason: u8) -> usize {
-    fields::put_number(out, at, b" end ", reason as u32)
+// A session opened with the first bytes of the reply buffer.
+fn open_lent(reply: &mut [u8], len: usize) -> Opened {
+    let n = within(len, reply.len());
+    node::open_session(&mut reply[0..n])
 }
 
-fn put_offer(out: &mut [u8], at: usize, m: Line) -> usize {
-    let a = out::put_text(out, at, b" offer");
-    fields::put_line(out, a, m)
+fn with_session(kept: State, session: Session) -> State {
+    let mut after = kept;
+    after.session = session;
+    after.is_open = true;
+    after
 }
 
-fn put_received(out: &mut [u8], at: usize, t: Terms) -> usize {
-    let a = fields::put_id(out, at, b" message id=", t.id);
-    let b = fields::put_salt(out, a, t.has_salt, t.salt);
-    fields::put_number(out, b, b" len=", t.len)
+// A step, and the buffers after it.
+struct Fed {
+    step: Step,
+    lent: Lent,
 }
 
-fn put_event(out: &mut [u8], at: usize, event: Event, m: Line) -> usize {
-    match event {
-        Event::Nothing => out::put_text(out, at, b" nothing"),
-        Event::Offer(_) => put_offer(out, at, m),
-        Event::Message(t) => put_received(out, at, t),
-        Event::End(reason) => put_end(out, at, reason),
+// Before any `open` there is no session to feed.
+pub(crate) fn feed(kept: State, piece: &[u8]) -> Done {
+    if !kept.is_open {
+        return kept.says(answer::bad());
     }
+    let fed = feed_lent(kept.session, piece, kept.lent);
+    let step = fed.step;
+    let lent = fed.lent;
+    with_session(kept, step.session).lends(lent, stepped(step, lent))
 }
 
-// What a call that was made answers.
-fn put_went(out: &mut [u8], step: Step, reply: &[u8]) -> usize {
-    let event = step.event;
-    let m = step.line;
-    let a = out::put_text(out, 0, b"used ");
-    let b = out::put_number(out, a, step.used as u64);
-    let c = put_event(out, b, event, m);
-    fields::put_front(out, c, b" reply ", reply, step.written)
+// A session fed with the first bytes of both buffers.
+fn feed_lent(session: Session, piece: &[u8], lent: Lent) -> Fed {
+    let mut after = lent;
+    let mut payload = lent.payload;
+    let mut reply = lent.reply;
+    let step = feed_parts(
+        session,
+        piece,
+        &mut payload,
+        lent.payload_len,
+        &mut reply,
+        lent.reply_len,
+    );
+    after.payload = payload;
+    after.reply = reply;
+    Fed { step, lent: after }
 }
 
-fn put_step(out: &mut [u8], step: Step, reply: &[u8]) -> usize {
+fn feed_parts(
+    session: Session,
+    piece: &[u8],
+    payload: &mut [u8],
+    payload_len: usize,
+    reply: &mut [u8],
+    reply_len: usize,
+) -> Step {
+    let n = within(payload_len, payload.len());
+    let m = within(reply_len, reply.len());
+    node::feed(session, piece, &mut payload[0..n], &mut reply[0..m])
+}
+
+fn stepped(step: Step, lent: Lent) -> Answer {
     let stepping = step.stepping;
     match stepping {
-        Stepping::Refused(number) => out::refused(out, number),
-        Stepping::Went => put_went(out, step, reply),
+        Stepping::Went => went(step, lent),
+        Stepping::Refused(number) => answer::refused(number),
     }
 }
 
-fn feed_command(
-    line: &[u8],
-    session: Session,
-    payload: &mut [u8],
-    reply: &mut [u8],
-    out: &mut [u8],
-) -> Talked {
-    let mut b = [0u8; values::LONGEST_BYTES];
-    let d = values::decode(words::word(line, 1), &mut b);
-    if !d.ok {
-        return Talked {
-            session,
-            is_open: true,
-            written: out::BAD_COMMAND,
-        };
+// What a step used, what happened, and its reply.
+fn went(step: Step, lent: Lent) -> Answer {
+    let event = step.event;
+    let reply = lent.reply;
+    let a = answer::said(b"used ").number(step.used as u64);
+    put_event(a, event, step.line)
+        .text(b" reply ")
+        .reply(&reply, step.written)
+}
+
+fn put_event(a: Answer, event: Event, offered: Line) -> Answer {
+    match event {
+        Event::Nothing => a.text(b" nothing"),
+        Event::Offer(_) => fields::put_line(a.text(b" offer"), offered),
+        Event::Message(t) => put_received(a, t),
+        Event::End(reason) => a.keyed(b" end ", reason as u32),
     }
-    let n = d.len;
-    let step = session::feed(session, &b[0..n], payload, reply);
-    let after = step.session;
-    let written = put_step(out, step, reply);
-    Talked {
-        session: after,
-        is_open: true,
-        written,
-    }
+}
+
+fn put_received(a: Answer, t: Terms) -> Answer {
+    let b = a.id(b" message id=", t.id);
+    fields::put_salt(b, t.has_salt, t.salt).keyed(b" len=", t.len)
 }

@@ -4,25 +4,22 @@ use Rattle.bench.proofs.script.run.Statement.{statement}
 use Rattle.bench.proofs.script.run.Tie as tie
 
 abbrev Inv-loop : tie.InvT-loop
-Inv-loop input₀ payload₀ reply₀ store₀ out₀ turns₀ r₀ input payload reply store out turns r = Unit {0}
+Inv-loop line₀ store₀ turns₀ s₀ line store turns s = Unit {0}
 
 abbrev μ-loop : tie.MeasureT-loop
-μ-loop input₀ payload₀ reply₀ store₀ out₀ turns₀ r₀ input payload reply store out turns r = turns
+μ-loop line₀ store₀ turns₀ s₀ line store turns s = turns
+
+start-requires : tie.Need-start-requires Inv-loop μ-loop
+start-requires c κs = tt
 
 loop-holds : tie.Need-loop-holds Inv-loop μ-loop
 loop-holds c = tt
 
-read-more-requires : tie.Need-read-more-requires Inv-loop μ-loop
-read-more-requires c κs = tt
-
-finish-requires : tie.Need-finish-requires Inv-loop μ-loop
-finish-requires c κs = tt
+turn-requires : tie.Need-turn-requires Inv-loop μ-loop
+turn-requires c κs = tt
 
 returns : tie.Need-returns Inv-loop μ-loop
 returns c = tt
-
-answer-lines-requires : tie.Need-answer-lines-requires Inv-loop μ-loop
-answer-lines-requires c κs = tt
 
 sub-turns : tie.Need-sub-turns Inv-loop μ-loop
 sub-turns c = omega arith
@@ -42,11 +39,10 @@ run-spec =
     (tie.spec
     Inv-loop
     μ-loop
+    start-requires
     loop-holds
-    read-more-requires
-    finish-requires
+    turn-requires
     returns
-    answer-lines-requires
     sub-turns
     loop-less
     loop-again

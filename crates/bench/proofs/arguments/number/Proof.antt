@@ -1,0 +1,33 @@
+-- Each turn reads a byte of the word.
+use Prim.Native.Nat.{_-_, _≤_}
+use borrow.Author.Needs.{needs}
+use lib.ListN.{length}
+use Rattle.bench.proofs.arguments.number.Statement.{statement}
+use Rattle.bench.proofs.arguments.number.Tie as tie
+
+abbrev Inv-loop : tie.InvT-loop
+Inv-loop word v₀ i₀ v i = i ≤ length word
+
+abbrev μ-loop : tie.MeasureT-loop
+μ-loop word v₀ i₀ v i = length word - i
+
+pub number-spec : {M : Type 1} → statement M
+number-spec =
+    tie.close
+    (tie.spec
+    Inv-loop
+    μ-loop
+    (λ c. search needs)
+    (λ c. search needs)
+    (λ c. search needs)
+    (λ c. search needs)
+    (λ c. search needs)
+    (λ c κs. search needs)
+    (λ c. search needs)
+    (λ c. search needs)
+    (λ c. search needs)
+    (λ c. search needs)
+    (λ c. search needs)
+    (λ c. search needs)
+    (λ c. search needs)
+    (λ c. search needs))
