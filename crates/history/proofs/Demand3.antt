@@ -14,7 +14,7 @@ use Rattle.callsigns.specs.Callsign.{callsign}
 use Rattle.names.specs.Texts.{streamId}
 use Rattle.keys.specs.declared.Key.{Key}
 use Rattle.keys.specs.Key.{sameKey, keyOf, namedOf}
-use Rattle.rows.specs.declared.Held.{Held}
+use Rattle.places.specs.declared.Held.{Held}
 use Rattle.rows.specs.declared.Row.{Row}
 use Rattle.rows.specs.Answer.{Answer, accepted, given, refused, Outcome, refuse}
 use Rattle.rows.specs.Stream.{Stream}

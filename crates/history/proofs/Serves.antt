@@ -13,14 +13,14 @@ use Rattle.callsigns.specs.Callsign.{callsign}
 use Rattle.names.specs.Texts.{streamId}
 use Rattle.keys.specs.declared.Key.{Key}
 use Rattle.keys.specs.Key.{sameKey, keyOf, keepsKey, namedOf}
-use Rattle.rows.specs.declared.Held.{Held}
+use Rattle.places.specs.declared.Held.{Held}
 use Rattle.rows.specs.declared.Row.{Row}
 use Rattle.rows.specs.Answer.{accepted, Outcome, refuse}
 use Rattle.rows.specs.Stream.{Stream, fresh, words, keeps}
 use Rattle.rows.specs.Row.{streamOf, rowOf, keepsRow, checked, offerOf}
 use Rattle.rows.proofs.Rules.{kept-row, keep, unpacks}
 use Rattle.rows.proofs.Keeps.{fresh-keeps}
-use Rattle.streams.specs.declared.Slot.{Slot}
+use Rattle.slots.specs.declared.Slot.{Slot}
 use Rattle.streams.specs.declared.Table.{Table}
 use Rattle.streams.specs.Table.{keepsSlot, hasKey, keepsTable}
 use Rattle.streams.specs.Calls.{offerBy, takeBy, forceBy, closeBy}

@@ -9,7 +9,7 @@ use mathlib.Core.Logic.{_⊎_, inl, inr}
 use borrow.Author.Tests.{lt-ltb, ltb-true, le-leb, leb-true, ne-eqb, eq-eqb}
 use Rattle.octets.specs.Words.{_or_, _<?_, _=?_}
 use Rattle.octets.proofs.Tests.{and-left, and-right, and-both, or-left, or-next, true-not-false}
-use Rattle.rows.specs.declared.Held.{Held}
+use Rattle.places.specs.declared.Held.{Held}
 use Rattle.rows.specs.Stream.{Stream, fresh, ascending, insert, gapOpen, due, accept, stay, give}
 use Rattle.rows.specs.Steps.{startAfter}
 use Rattle.rows.proofs.Rules.{Kept}

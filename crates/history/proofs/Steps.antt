@@ -4,7 +4,7 @@ use mathlib.Core.Path.{_≡_, refl, ap, _∙_}
 use mathlib.Core.Bool.{true}
 use mathlib.Core.List.{List, [], _∷_}
 use Rattle.octets.proofs.Tests.{and-left, and-right}
-use Rattle.rows.specs.declared.Held.{Held}
+use Rattle.places.specs.declared.Held.{Held}
 use Rattle.rows.specs.Answer.{Outcome}
 use Rattle.rows.specs.Stream.{Stream, word, words, keeps}
 use Rattle.rows.specs.Stream as row

@@ -9,7 +9,7 @@ use lib.ListN as list
 use Rattle.octets.specs.Words.{if_then_else_, _and_}
 use Rattle.keys.specs.declared.Key.{Key}
 use Rattle.keys.specs.Key.{sameKey, namedOf}
-use Rattle.rows.specs.declared.Held.{Held}
+use Rattle.places.specs.declared.Held.{Held}
 use Rattle.rows.specs.declared.Row.{Row}
 use Rattle.refusals.specs.Numbers.{stillHolding}
 use Rattle.rows.specs.Answer.{Answer, accepted, given, nothing, refused, Outcome, refuse}

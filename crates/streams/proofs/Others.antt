@@ -8,10 +8,10 @@ use lib.Seq.{getD-set-other}
 use Rattle.octets.proofs.Tests.{true-not-false}
 use Rattle.keys.specs.declared.Key.{Key}
 use Rattle.keys.specs.Key.{sameKey, namedOf}
-use Rattle.rows.specs.declared.Held.{Held}
+use Rattle.places.specs.declared.Held.{Held}
 use Rattle.rows.specs.Answer.{Outcome}
 use Rattle.rows.specs.Stream.{word, words}
-use Rattle.streams.specs.declared.Slot.{Slot}
+use Rattle.slots.specs.declared.Slot.{Slot}
 use Rattle.streams.specs.declared.Table.{Table}
 use Rattle.streams.specs.Table.{freeSlot, hasKey, slotAt, pastSlot}
 use Rattle.streams.specs.Calls.{offer, take, force, close}

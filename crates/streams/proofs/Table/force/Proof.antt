@@ -1,37 +1,53 @@
 -- What stands for the key decides.
 use mathlib.Core.Path.{sym, _∙_}
 use borrow.Author.Needs.{needs}
-use Rattle.streams.proofs.Lookups.{open-bound, force-by}
+use Rattle.streams.proofs.Lookups.{open-bound, on-row, force-by}
 use Rattle.streams.proofs.Table.force.Statement.{statement}
 use Rattle.streams.proofs.Table.force.Tie as tie
 
-force-at-requires : tie.Need-force-at-requires
-force-at-requires c κs =
+mul-x : tie.Need-mul-x
+mul-x c =
     let at-look-up = c .before .before .before .look-up in
-    open-bound _ _ _ (sym (c .before .l2 .given .1) ∙ at-look-up .ensures)
+    let b = open-bound _ _ _ (sym (c .before .l2 .given .1) ∙ at-look-up .ensures) in search needs
+
+element-copy-out-x : tie.Need-element-copy-out-x
+element-copy-out-x c =
+    let at-look-up = c .before .before .before .look-up in
+    let b = open-bound _ _ _ (sym (c .before .l2 .given .1) ∙ at-look-up .ensures) in search needs
+
+mul-x-2 : tie.Need-mul-x-2
+mul-x-2 c =
+    let at-l2 = c .before .before .before .before .before .l2 in
+    let at-look-up = c .before .before .before .before .before .before .before .look-up in
+    let b = open-bound _ _ _ (sym (at-l2 .given .1) ∙ at-look-up .ensures) in search needs
+
+element-set-from-x : tie.Need-element-set-from-x
+element-set-from-x c =
+    let at-l2 = c .before .before .before .before .before .l2 in
+    let at-look-up = c .before .before .before .before .before .before .before .look-up in
+    let b = open-bound _ _ _ (sym (at-l2 .given .1) ∙ at-look-up .ensures) in search needs
 
 returns : tie.Need-returns
 returns c =
-    let at-l = c .before .before .l in
-    let at-look-up = c .before .before .before .before .look-up in
-    let at-name = c .before .before .before .before .before .name in
-    let at-args = c .before .before .before .before .before .before .before .before .args in
-    c .refused-take .ensures ∙ force-by _ _ _ _ _ (sym (at-l .given .1) ∙ at-look-up .ensures) (at-name .ensures) (at-args .time)
-
-returns-2 : tie.Need-returns-2
-returns-2 c =
-    let at-l2 = c .before .before .l2 in
-    let at-look-up = c .before .before .before .before .look-up in
-    let at-name = c .before .before .before .before .before .name in
-    let at-args = c .before .before .before .before .before .before .before .before .args in
-    c .force-at .ensures ∙ force-by _ _ _ _ _ (sym (at-l2 .given .1) ∙ at-look-up .ensures) (at-name .ensures) (at-args .time)
-
-returns-3 : tie.Need-returns-3
-returns-3 c =
     let at-look-up = c .before .before .before .look-up in
     let at-name = c .before .before .before .before .name in
     let at-args = c .before .before .before .before .before .before .before .args in
-    c .refused-take2 .ensures ∙ force-by _ _ _ _ _ (sym (c .before .enum-told .given .1) ∙ at-look-up .ensures) (at-name .ensures) (at-args .time)
+    force-by _ _ _ _ _ (sym (c .before .l .given .1) ∙ at-look-up .ensures) (at-name .ensures) (at-args .time)
+
+returns-2 : tie.Need-returns-2
+returns-2 c =
+    let at-args = c .before .before .before .before .before .before .before .before .before .before .before .args in
+    let at-l2 = c .before .before .before .before .before .l2 in
+    let at-look-up = c .before .before .before .before .before .before .before .look-up in
+    let at-name = c .before .before .before .before .before .before .before .before .name in
+    on-row (at-args .t1) _ _ _ _ (c .before .force .ensures) ∙ force-by _ _ _ _ _ (sym (at-l2 .given .1) ∙ at-look-up .ensures) (at-name .ensures) (at-args .time)
+
+returns-3 : tie.Need-returns-3
+returns-3 c =
+    let at-look-up = c .before .before .look-up in
+    let at-name = c .before .before .before .name in
+    let at-args = c .before .before .before .before .before .before .args in
+    force-by _ _ _ _ _ (sym (c .enum-told .given .1) ∙ at-look-up .ensures) (at-name .ensures) (at-args .time)
 
 pub force-spec : {M : Type 1} → statement M
 force-spec =
@@ -40,11 +56,13 @@ force-spec =
     (λ c κs. search needs)
     (λ c κs. search needs)
     (λ c. search needs)
-    (λ c κs. search needs)
     (λ c. search needs)
-    force-at-requires
-    (λ c. search needs)
+    mul-x
+    element-copy-out-x
     (λ c κs. search needs)
+    mul-x-2
+    element-set-from-x
+    (λ c. search needs)
     returns
     returns-2
     returns-3)
