@@ -19,8 +19,10 @@ use Rattle.slots.specs.declared.Slot.{Slot}
 use Rattle.streams.specs.declared.Table.{Table}
 use Rattle.streams.specs.declared.Found.{Found}
 use Rattle.streams.specs.declared.Lookup.{Lookup}
+use Rattle.streams.specs.declared.rules.Ruled.{Ruled}
 use Rattle.streams.specs.Table.{keepsSlot, hasKey, distinct, keepsTable, first, slotAt, withSlot, freeSlot}
 use Rattle.streams.specs.Calls.{place, lookUp, onRow, opened, offerBy, offer, takeBy, take, forceBy, force, closeBy, close}
+use Rattle.streams.specs.Steps.{foundOr, Tested, standingOf}
 use Rattle.streams.proofs.Search.{first-bound}
 
 -- a table that keeps the rules
@@ -84,6 +86,17 @@ module _ (t : Table) (i : ℕ) where
 
   pub closed-at : (x : Slot) → slotAt t i .row .count ≡ 0 → x ≡ freeSlot → _≡_ {A = Outcome Table} (record { answer = accepted; after = withSlot t i x }) (closeBy t (Lookup.Open i))
   closed-at x n e = ap {B = Outcome Table} (λ (y : Slot). record { answer = accepted; after = withSlot t i y }) e ∙ sym (if-yes _ _ _ (eq-eqb (slotAt t i .row .count) 0 n))
+
+-- what the code looked up stands for the key
+pub look-is : (t : Table) (named : Named) (r : Ruled) → Tested t (named .key) r → standingOf r (named .refusal) ≡ lookUp t named
+unfolding lookUp
+look-is t named r w = rw (← w .good) (go (r .good) refl)
+  where
+    go : (b : Bool) → r .good ≡ b
+        → (if no b then Lookup.Refused stateBroken else if 0 <? named .refusal then Lookup.Refused (named .refusal) else place (foundOr (r .found) Found.Nothing))
+        ≡ (if no b then Lookup.Refused stateBroken else if 0 <? named .refusal then Lookup.Refused (named .refusal) else place (first (hasKey (named .key)) 0 (t .slots)))
+    go false e = refl
+    go true e = ap (λ (f : Found). if 0 <? named .refusal then Lookup.Refused (named .refusal) else place f) (w .found e)
 
 -- the calls, from what the code looked up
 module _ (t : Table) (o s : List ℕ) (named : Named) (l : Lookup) (p : l ≡ lookUp t named) (q : named ≡ namedOf o s) where

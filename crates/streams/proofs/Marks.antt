@@ -1,13 +1,14 @@
 -- The marks of the slots: what a turn of each loop over them comes to.
 use mathlib.Core.Path.{_≡_, refl, sym, ap, _∙_, subst}
-use Prim.Native.Nat.{ℕ, _+_, _<_}
+use Prim.Native.Nat.{ℕ, _+_, _<_, _≤_}
 use native.Mathlib.Omega.{arith}
 use native.Mathlib.Decide.{ℕ-discrete}
 use mathlib.Core.Bool.{Bool, true, false}
 use mathlib.Core.List.{List, [], _∷_}
-use lib.ListN.{length, getD, set, drop}
+use lib.ListN.{length, getD, set, drop, drop-of-length-le}
+use borrow.Author.Tests.{lt-ltb}
 use lib.Seq.{getD-set-same, getD-set-other}
-use Rattle.octets.specs.Words.{if_then_else_, _and_, _or_, some}
+use Rattle.octets.specs.Words.{if_then_else_, _and_, _or_, some, _<?_}
 use Rattle.octets.proofs.Tests.{if-yes, and-left, and-right, and-next, and-not-left, or-left, or-next, true-not-false}
 use Rattle.octets.proofs.Lists.{drop-next}
 use Rattle.keys.specs.declared.Key.{Key}
@@ -15,8 +16,9 @@ use Rattle.keys.specs.Key.{sameKey, streamIdOf, markOf}
 use Rattle.keys.proofs.SameKey.{marks-same}
 use Rattle.slots.specs.declared.Slot.{Slot}
 use Rattle.streams.specs.declared.Table.{Table}
-use Rattle.streams.specs.Table.{hasKey, twice, slotAt, pastSlot}
-use Rattle.streams.specs.Steps.{markAt, Marked}
+use Rattle.streams.specs.declared.Found.{Found}
+use Rattle.streams.specs.Table.{hasKey, twice, first, slotAt, pastSlot}
+use Rattle.streams.specs.Steps.{markAt, Marked, seenAt, foundOr}
 
 -- one mark more
 pub marked-more : (t : Table) (marks : List ℕ) (n v : ℕ) → n < length marks → Marked t marks n → v ≡ markAt n (slotAt t n) → Marked t (set marks n v) (n + 1)
@@ -69,3 +71,19 @@ twice-end x = go (x .used)
     go : (b : Bool) → b and false ≡ false
     go true = refl
     go false = refl
+
+-- ---- the first slot that has a key, slot by slot
+
+module _ (k : Key) (l : List Slot) (found i : ℕ) (h : i < length l) (s : i < 32) where
+  pub seen-next : foundOr found (first (hasKey k) i (drop i l)) ≡ foundOr (seenAt found i (getD l i pastSlot) k) (first (hasKey k) (i + 1) (drop (i + 1) l))
+  seen-next = rw (drop-next l i pastSlot h) (go (found <? 32) (hasKey k (getD l i pastSlot)) refl)
+    where
+      go : (a b : Bool) → (found <? 32) ≡ a
+          → (if a then Found.At found else (if b then Found.At i else first (hasKey k) (i + 1) (drop (i + 1) l)))
+          ≡ foundOr (if a then found else if b then i else 32) (first (hasKey k) (i + 1) (drop (i + 1) l))
+      go true b e = sym (if-yes _ _ _ e)
+      go false true e = sym (if-yes _ _ _ (lt-ltb i 32 s))
+      go false false e = refl
+
+pub seen-end : (k : Key) (l : List Slot) (found i : ℕ) → length l ≤ i → foundOr found (first (hasKey k) i (drop i l)) ≡ foundOr found Found.Nothing
+seen-end k l found i h = ap (λ (r : List Slot). foundOr found (first (hasKey k) i r)) (drop-of-length-le l {i = i} h)

@@ -3,13 +3,18 @@ use Prim.Native.Nat.{ℕ, _+_, _<_}
 use mathlib.Core.Path.{_≡_}
 use mathlib.Core.Bool.{true}
 use mathlib.Core.List.{List}
-use lib.ListN.{length, getD}
-use Rattle.octets.specs.Words.{if_then_else_}
+use lib.ListN.{getD}
+use Rattle.octets.specs.Words.{if_then_else_, no, _<?_}
+use Rattle.refusals.specs.Numbers.{stateBroken}
+use Rattle.keys.specs.declared.Key.{Key}
 use Rattle.keys.specs.Key.{streamIdOf, markOf}
 use Rattle.slots.specs.declared.Slot.{Slot}
 use Rattle.streams.specs.declared.Table.{Table}
 use Rattle.streams.specs.declared.rules.Ruled.{Ruled}
-use Rattle.streams.specs.Table.{keepsTable, slotAt}
+use Rattle.streams.specs.declared.Found.{Found}
+use Rattle.streams.specs.declared.Lookup.{Lookup}
+use Rattle.streams.specs.Table.{hasKey, keepsTable, first, slotAt}
+use Rattle.streams.specs.Calls.{place}
 
 -- the mark of slot i: that of its key, where it is open
 abbrev pub markAt : ℕ → Slot → ℕ
@@ -19,8 +24,20 @@ markAt i x = if x .used then markOf (streamIdOf (x .key)) else (4294967296 + i)
 abbrev pub Marked : Table → List ℕ → ℕ → Type 0
 Marked t marks n = (i : ℕ) → i < n → getD marks i 0 ≡ markAt i (slotAt t i)
 
--- whether the table keeps its rules; if it does, the marks are those of its slots
-pub record Tested (t : Table) (r : Ruled) : Type 0 where
+-- the first slot with the key, the slots before i having been looked at
+abbrev pub seenAt : ℕ → ℕ → Slot → Key → ℕ
+seenAt found i x k = if found <? 32 then found else if hasKey k x then i else 32
+
+abbrev pub foundOr : ℕ → Found → Found
+foundOr found rest = if found <? 32 then Found.At found else rest
+
+-- whether the table keeps its rules; if it does, where the key was found
+pub record Tested (t : Table) (k : Key) (r : Ruled) : Type 0 where
   pub good : r .good ≡ keepsTable t
-  pub long : length (r .marks) ≡ 32
-  pub marks : r .good ≡ true → Marked t (r .marks) 32
+  pub found : r .good ≡ true → foundOr (r .found) Found.Nothing ≡ first (hasKey k) 0 (t .slots)
+
+abbrev pub standingOf : Ruled → ℕ → Lookup
+standingOf r refusal =
+    if no (r .good) then Lookup.Refused stateBroken
+    else if 0 <? refusal then Lookup.Refused refusal
+    else place (foundOr (r .found) Found.Nothing)

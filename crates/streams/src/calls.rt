@@ -4,45 +4,33 @@ ghost use Rattle.rows.specs.Answer.{refused};
 ghost use Rattle.rows.specs.Row.{noRow};
 ghost use Rattle.keys.specs.Key.{noKey};
 ghost use Rattle.streams.specs.Answer.{servedSays, shownSays};
-ghost use Rattle.streams.specs.Calls.{lookUp, offerBy};
+ghost use Rattle.streams.specs.Calls.{offerBy};
+ghost use Rattle.streams.specs.Steps.{standingOf};
 use crate::Found;
 use crate::Lookup;
 use crate::Served;
 use crate::Shown;
 use crate::Table;
 use crate::rules;
+use crate::rules::Ruled;
 use keys::Key;
-use keys::Named;
 use places::Held;
 use rows::Accepting;
 use rows::Row;
 use slots::Slot;
 
-// The tests that every call makes first, then the row that has the key: only slots with the key's mark are looked at.
-pub(crate) fn look_up(t: Table, named: Named) -> Lookup
-    ensures { λ r. ⌜ r ≡ lookUp t named ⌝ }
+// What stands for a key, by the tests in their order: 40, then the names' refusal, then the place where it was found.
+pub(crate) fn standing(r: Ruled, refusal: u8) -> Lookup
+    ensures { λ l. ⌜ l ≡ standingOf r refusal ⌝ }
 {
-    let r = rules::test(t);
     if !r.good {
         return Lookup::Refused(refusals::STATE_BROKEN);
     }
-    if named.refusal > 0 {
-        return Lookup::Refused(named.refusal);
+    if refusal > 0 {
+        return Lookup::Refused(refusal);
     }
-    let marks = r.marks;
-    let key = named.key;
-    let mark = lengths::wide32(keys::mark(key));
-    let mut i: usize = 0;
-    while i < 32 {
-        if marks[i] != mark {
-            i += 1;
-            continue;
-        }
-        let x = t.slots[i];
-        if x.has_key(key) {
-            return Lookup::Open(i);
-        }
-        i += 1;
+    if r.found < 32 {
+        return Lookup::Open(r.found);
     }
     Lookup::Unknown
 }

@@ -75,7 +75,9 @@ impl Table {
         ensures { λ r. ⌜ servedSays r ≡ offer self (now (originator .entry)) (now («stream_id» .entry)) (record { number = number; timeout = timeout; slip = slip }) time ⌝ }
     {
         let named = keys::name(originator, stream_id);
-        let l = calls::look_up(self, named);
+        let key = named.key;
+        let r = rules::test(self, key);
+        let l = calls::standing(r, named.refusal);
         match l {
             Lookup::Refused(n) => Served {
                 answer: Accepting::Refused(n),
@@ -100,7 +102,6 @@ impl Table {
                     timeout: timeout,
                     slip: slip,
                 };
-                let key = named.key;
                 calls::offer_new(self, key, m, time)
             }
         }
@@ -111,7 +112,9 @@ impl Table {
         ensures { λ r. ⌜ takenSays r ≡ take self (now (originator .entry)) (now («stream_id» .entry)) time ⌝ }
     {
         let named = keys::name(originator, stream_id);
-        let l = calls::look_up(self, named);
+        let key = named.key;
+        let r = rules::test(self, key);
+        let l = calls::standing(r, named.refusal);
         match l {
             Lookup::Refused(n) => Taken {
                 answer: Giving::Refused(n),
@@ -142,7 +145,9 @@ impl Table {
         ensures { λ r. ⌜ takenSays r ≡ force self (now (originator .entry)) (now («stream_id» .entry)) time ⌝ }
     {
         let named = keys::name(originator, stream_id);
-        let l = calls::look_up(self, named);
+        let key = named.key;
+        let r = rules::test(self, key);
+        let l = calls::standing(r, named.refusal);
         match l {
             Lookup::Refused(n) => Taken {
                 answer: Giving::Refused(n),
@@ -173,7 +178,9 @@ impl Table {
         ensures { λ r. ⌜ servedSays r ≡ close self (now (originator .entry)) (now («stream_id» .entry)) ⌝ }
     {
         let named = keys::name(originator, stream_id);
-        let l = calls::look_up(self, named);
+        let key = named.key;
+        let r = rules::test(self, key);
+        let l = calls::standing(r, named.refusal);
         match l {
             Lookup::Refused(n) => Served {
                 answer: Accepting::Refused(n),
@@ -203,7 +210,8 @@ impl Table {
     pub fn open_rows(self) -> Count
         ensures { λ r. ⌜ countSays r ≡ openRows self ⌝ }
     {
-        let r = rules::test(self);
+        let key = keys::none();
+        let r = rules::test(self, key);
         if !r.good {
             return Count::Refused(refusals::STATE_BROKEN);
         }
@@ -222,7 +230,8 @@ impl Table {
     pub fn row_at(self, number: usize) -> Shown
         ensures { λ r. ⌜ shownSays r ≡ rowAt self number ⌝ }
     {
-        let r = rules::test(self);
+        let key = keys::none();
+        let r = rules::test(self, key);
         if !r.good {
             return calls::unseen(refusals::STATE_BROKEN);
         }

@@ -1,33 +1,44 @@
 // The rules of a table (40), and the searches in its slots.
 ghost use mathlib.Core.Path.{_≡_};
+ghost use mathlib.Core.Bool.{false};
 ghost use Prim.Native.Nat.{_<_};
 ghost use Rattle.streams.specs.Table.{isFree, first};
-ghost use Rattle.streams.specs.Steps.{markAt, Tested};
+ghost use Rattle.streams.specs.Steps.{markAt, seenAt, Tested};
 use crate::Found;
 use crate::Table;
+use keys::Key;
 use slots::Slot;
 
-// Whether a table keeps its rules, and the mark of each slot: that of an open slot's key, or a number that no key and no other slot has.
+// Whether a table keeps its rules, and the place of the slot that has a key, 32 where none has.
 pub(crate) struct Ruled {
     pub good: bool,
-    pub marks: [u64; 32],
+    pub found: usize,
 }
 
-// Tests each slot, then each pair of slots whose marks are equal; unlike marks are unlike keys.
-pub(crate) fn test(t: Table) -> Ruled
-    ensures { λ r. ⌜ Tested t r ⌝ }
+fn broken() -> Ruled
+    ensures { λ r. ⌜ r ≡ record { good = false; found = 32 } ⌝ }
+{
+    Ruled {
+        good: false,
+        found: 32,
+    }
+}
+
+// Tests each slot, then each pair of slots whose marks are equal: unlike marks are unlike keys. One function, since each one that is handed
+// the table copies it.
+pub(crate) fn test(t: Table, key: Key) -> Ruled
+    ensures { λ r. ⌜ Tested t key r ⌝ }
 {
     let mut marks = [0u64; 32];
+    let mut found: usize = 32;
     let mut i: usize = 0;
     while i < 32 {
         let x = t.slots[i];
         if !x.keeps_rules() {
-            return Ruled {
-                good: false,
-                marks: marks,
-            };
+            return broken();
         }
         marks[i] = mark_of(x, i);
+        found = seen(found, i, x, key);
         i += 1;
     }
     let mut k: usize = 0;
@@ -41,10 +52,7 @@ pub(crate) fn test(t: Table) -> Ruled
             let x = t.slots[k];
             let y = t.slots[j];
             if x.is_alike(y) {
-                return Ruled {
-                    good: false,
-                    marks: marks,
-                };
+                return broken();
             }
             j += 1;
         }
@@ -52,10 +60,24 @@ pub(crate) fn test(t: Table) -> Ruled
     }
     Ruled {
         good: true,
-        marks: marks,
+        found: found,
     }
 }
 
+// The place of the first slot with the key: the one that was found, or slot i, x, if it has the key.
+fn seen(found: usize, i: usize, x: Slot, key: Key) -> usize
+    ensures { λ r. ⌜ r ≡ seenAt found i x key ⌝ }
+{
+    if found < 32 {
+        return found;
+    }
+    if x.has_key(key) {
+        return i;
+    }
+    32
+}
+
+// The mark of an open slot's key, or a number that no key and no other slot has.
 fn mark_of(x: Slot, i: usize) -> u64
     requires { ⌜ i < 32 ⌝ }
     ensures { λ r. ⌜ r ≡ markAt i x ⌝ }

@@ -48,9 +48,8 @@ returns-3 c =
     let at-row-size = c .before .before .before .before .before .before .before .before .before .row-size in
     let at-put-key = c .before .before .before .before .before .before .put-key in
     let at-put-row = c .before .before .put-row in
-    
-     let h : at-args .at + length (body .print (at-args .key, at-args .row)) ≤ length (at-args .out .now) = omega (arith, at-if1 .left, at-if2 .left, body-parts (at-args .key) (at-args .row), at-key-size .ensures .0, at-row-size .ensures .0) in
-     (sym (le-leb _ _ h), body-placed (at-args .key) (at-args .row) _ (at-args .at) (at-args .out .now) _ _ (at-key-size .ensures .0) (at-put-key .ensures) (at-put-row .ensures) h)
+    let h : at-args .at + length (body .print (at-args .key, at-args .row)) ≤ length (at-args .out .now) = omega (arith, at-if1 .left, at-if2 .left, body-parts (at-args .key) (at-args .row), at-key-size .ensures .0, at-row-size .ensures .0) in
+    (sym (le-leb _ _ h), body-placed (at-args .key) (at-args .row) _ (at-args .at) (at-args .out .now) _ _ (at-key-size .ensures .0) (at-put-key .ensures) (at-put-row .ensures) h)
 
 pub write-spec : {M : Type 1} → statement M
 write-spec =

@@ -16,11 +16,10 @@ returns : tie.Need-returns
 returns c =
     let at-start = c .before .before in
     let at-args = c .before .before .args in
-    
-     let n = long (at-start) in
-     let l = at-args .r .held in
-     let e : take (at-args .r .count) l ≡ l = take-all (at-args .r .count) l (omega (arith, n, c .if1 .taken)) in
-     (sym (ap length e ∙ n), omega arith, e ∙ sym (take-all 16 l (omega (arith, n))))
+    let n = long (at-start) in
+    let l = at-args .r .held in
+    let e : take (at-args .r .count) l ≡ l = take-all (at-args .r .count) l (omega (arith, n, c .if1 .taken)) in
+    (sym (ap length e ∙ n), omega arith, e ∙ sym (take-all 16 l (omega (arith, n))))
 
 returns-2 : tie.Need-returns-2
 returns-2 c =

@@ -22,9 +22,8 @@ returns : tie.Need-returns
 returns c =
     let at-args = c .before .before .before .before .before .before .before .before .args in
     let at-part = c .before .before .before .before .part in
-    
-     let s = sizes (at-args .t1 .originator) (at-args .t1 .«stream_id») (at-args .t1 .«originator_len») (at-args .t1 .«stream_id_len») (search needs) (search needs) in
-     (omega (arith, key-size (at-args .t1), ap length (at-part .ensures), ap length (c .part2 .ensures)), omega (arith, s, ap length (at-part .ensures), ap length (c .part2 .ensures)))
+    let s = sizes (at-args .t1 .originator) (at-args .t1 .«stream_id») (at-args .t1 .«originator_len») (at-args .t1 .«stream_id_len») (search needs) (search needs) in
+    (omega (arith, key-size (at-args .t1), ap length (at-part .ensures), ap length (c .part2 .ensures)), omega (arith, s, ap length (at-part .ensures), ap length (c .part2 .ensures)))
 
 pub key-size-spec : {M : Type 1} → statement M
 key-size-spec = tie.close (tie.spec (λ c κs. search needs) (λ c κs. search needs) (λ c. search needs) add-result-2 returns)

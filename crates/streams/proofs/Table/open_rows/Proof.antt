@@ -34,7 +34,7 @@ loop-holds c = (search unmapped, search needs, omega arith)
 loop-again : tie.Need-loop-again Inv-loop μ-loop
 loop-again c =
     let at-loop = c .before .before .loop in
-    let at-args = c .before .before .before .before .before .before .args in
+    let at-args = c .before .before .before .before .before .before .before .args in
     let k = at-loop in
     let l = at-args .t1 .slots in
     let s = count-next l (k .i) pastSlot (omega arith) (λ x. x .used) in
@@ -46,7 +46,7 @@ loop-again c =
 returns-2 : tie.Need-returns-2 Inv-loop μ-loop
 unfolding openRows
 returns-2 c =
-    let at-args = c .before .before .before .before .before .args in
+    let at-args = c .before .before .before .before .before .before .args in
     let at-loop = c .before .loop in
     let at-test = c .before .before .before .before .test in
     let at-if1 = c .before .before .if1 in
@@ -60,6 +60,7 @@ open-rows-spec =
     (tie.spec
     Inv-loop
     μ-loop
+    (λ c κs. search needs)
     (λ c κs. search needs)
     returns
     loop-holds

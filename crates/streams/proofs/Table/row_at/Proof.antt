@@ -29,7 +29,7 @@ returns-3 c =
     let at-test = c .before .before .before .before .before .before .before .test in
     let at-if1 = c .before .before .before .before .before .if1 in
     let at-if2 = c .before .before .before .before .if2 in
-    let at-args = c .before .before .before .before .before .before .before .before .args in
+    let at-args = c .before .before .before .before .before .before .before .before .before .args in
     c .unseen3 .ensures ∙ sym (if-no _ _ _ (no-true _ (sym (at-test .ensures .good) ∙ not-false _ (at-if1 .left))) ∙ if-no _ _ _ (and-next _ _ (lt-ltb _ _ (at-if2 .left)) ∙ not-true (getD (at-args .t1 .slots) (at-args .number) pastSlot .used) (c .before .if3 .taken)))
 
 returns-4 : tie.Need-returns-4
@@ -38,7 +38,7 @@ returns-4 c =
     let at-test = c .before .before .before .before .before .before .before .before .test in
     let at-if1 = c .before .before .before .before .before .before .if1 in
     let at-if2 = c .before .before .before .before .before .if2 in
-    let at-args = c .before .before .before .before .before .before .before .before .before .args in
+    let at-args = c .before .before .before .before .before .before .before .before .before .before .args in
     let at-if3 = c .before .before .if3 in
     sym (if-no _ _ _ (no-true _ (sym (at-test .ensures .good) ∙ not-false _ (at-if1 .left))) ∙ if-yes _ _ _ (and-both _ _ (lt-ltb _ _ (at-if2 .left)) (not-false (getD (at-args .t1 .slots) (at-args .number) pastSlot .used) (at-if3 .left))))
 
@@ -46,6 +46,7 @@ pub row-at-spec : {M : Type 1} → statement M
 row-at-spec =
     tie.close
     (tie.spec
+    (λ c κs. search needs)
     (λ c κs. search needs)
     (λ c κs. search needs)
     returns
