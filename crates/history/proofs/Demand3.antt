@@ -30,7 +30,7 @@ use Rattle.streams.proofs.Alone as does
 use Rattle.image.specs.Image.{loadOf}
 use Rattle.image.proofs.Keeps.{load-keeps, load-refused}
 use Rattle.image.proofs.Back.{loadedAs, save-then-load}
-use Rattle.history.specs.History.{Way, take, force, opened, Sent, accepted as taken-in, givenOut, count, countHeld, next, MayPass, Ordered}
+use Rattle.history.specs.History.{take, force, opened, Sent, accepted as taken-in, givenOut, count, countHeld, next, MayPass, Ordered}
 use Rattle.history.specs.Chain.{Call, offer, give, close, small, asked, Log, start, loaded, answered, noted, standing, mine, Saved, Chain, begins, asks, loads-own, loads-other, loads-none, closing, rowCall, replay}
 use Rattle.history.proofs.Sound as sound
 use Rattle.history.proofs.Sound.{sound-restored, is-due}

@@ -1,18 +1,18 @@
 -- The marks of the slots: what a turn of each loop over them comes to.
-use mathlib.Core.Path.{_≡_, refl, sym, ap, _∙_, subst}
+use mathlib.Core.Path.{_≡_, refl, sym, ap, _∙_}
 use Prim.Native.Nat.{ℕ, _+_, _<_, _≤_}
 use native.Mathlib.Omega.{arith}
 use native.Mathlib.Decide.{ℕ-discrete}
 use mathlib.Core.Bool.{Bool, true, false}
-use mathlib.Core.List.{List, [], _∷_}
+use mathlib.Core.List.{List, []}
 use lib.ListN.{length, getD, set, drop, drop-of-length-le}
 use borrow.Author.Tests.{lt-ltb}
 use lib.Seq.{getD-set-same, getD-set-other}
 use Rattle.octets.specs.Words.{if_then_else_, _and_, _or_, some, _<?_}
-use Rattle.octets.proofs.Tests.{if-yes, and-left, and-right, and-next, and-not-left, or-left, or-next, true-not-false}
+use Rattle.octets.proofs.Tests.{if-yes, and-left, and-right, and-next, and-not-left, or-left, or-next}
 use Rattle.octets.proofs.Lists.{drop-next}
 use Rattle.keys.specs.declared.Key.{Key}
-use Rattle.keys.specs.Key.{sameKey, streamIdOf, markOf}
+use Rattle.keys.specs.Key.{streamIdOf, markOf}
 use Rattle.keys.proofs.SameKey.{marks-same}
 use Rattle.slots.specs.declared.Slot.{Slot}
 use Rattle.streams.specs.declared.Table.{Table}

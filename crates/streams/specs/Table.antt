@@ -1,6 +1,6 @@
 -- Document 01, "Streams": 32 rows by key. A slot of the table, the rules that a table keeps (40), and the searches in it.
 use Prim.Native.Nat.{ℕ, _+_}
-use mathlib.Core.Bool.{Bool, true, false}
+use mathlib.Core.Bool.{Bool, true}
 use mathlib.Core.List.{List, [], _∷_}
 use lib.ListN.{length, getD, set, replicate}
 use Rattle.octets.specs.Words.{if_then_else_, _and_, no, every, some, _=?_}
