@@ -9,7 +9,7 @@ use mathlib.Core.Logic.{_⊎_, inl, inr}
 use borrow.Author.Tests.{eq-eqb, ne-eqb, leb-true}
 use Rattle.octets.specs.Words.{if_then_else_, _<?_, _≤?_, _=?_}
 use Rattle.octets.proofs.Tests.{and-left, and-right}
-use Rattle.rows.specs.declared.Held.{Held}
+use Rattle.places.specs.declared.Held.{Held}
 use Rattle.rows.specs.Stream.{ascending, insert}
 use Rattle.history.specs.History.{Sent, sent, bit, count, countHeld, numbered, In, Rises}
 

@@ -13,22 +13,21 @@ use Rattle.callsigns.specs.Callsign.{callsign}
 use Rattle.names.specs.Texts.{streamId}
 use Rattle.keys.specs.declared.Key.{Key}
 use Rattle.keys.specs.Key.{sameKey, keyOf, keepsKey, namedOf}
-use Rattle.rows.specs.declared.Held.{Held}
+use Rattle.places.specs.declared.Held.{Held}
 use Rattle.rows.specs.declared.Row.{Row}
 use Rattle.rows.specs.Answer.{accepted, Outcome, refuse}
 use Rattle.rows.specs.Stream.{Stream, fresh, words, keeps}
 use Rattle.rows.specs.Row.{streamOf, rowOf, keepsRow, checked, offerOf}
 use Rattle.rows.proofs.Rules.{kept-row, keep, unpacks}
 use Rattle.rows.proofs.Keeps.{fresh-keeps}
-use Rattle.streams.specs.declared.Slot.{Slot}
+use Rattle.slots.specs.declared.Slot.{Slot}
 use Rattle.streams.specs.declared.Table.{Table}
 use Rattle.streams.specs.Table.{keepsSlot, hasKey, keepsTable}
 use Rattle.streams.specs.Calls.{offerBy, takeBy, forceBy, closeBy}
 use Rattle.streams.specs.Meaning.{rowIn, rowFor}
 use Rattle.streams.proofs.Lookups.{kept}
 use Rattle.streams.proofs.Places.{as-key, used-key}
-use Rattle.streams.proofs.Keeps.{offer-keeps, take-keeps, force-keeps, close-keeps}
-use Rattle.streams.proofs.Others.{offer-others, take-others, force-others, close-others}
+use Rattle.streams.proofs.Moves.{Move, offer-moves, take-moves, force-moves, close-moves}
 use Rattle.streams.proofs.Alone as alone
 use Rattle.streams.proofs.Alone.{Does, named-is}
 use Rattle.streams.proofs.Unknown as unknown
@@ -66,20 +65,14 @@ row-in-keeps k r (x ∷ l) g q = by (hasKey k x) refl q (row-in-keeps k r l (and
 pub row-keeps : (k : Key) (t : Table) (r : Row) → keepsTable t ≡ true → rowFor k t ≡ just r → keepsRow r ≡ true
 row-keeps k t r e q = row-in-keeps k r (t .slots) (kept t e .each) q
 
--- ---- the calls keep the rules, and leave other streams alone
+-- ---- the calls are moves of the table
 
 module _ (t : Table) (o s : List ℕ) where
-  pub asked-keeps : keepsTable t ≡ true → (c : Call) → small c ≡ true → keepsTable (asked t o s c .after) ≡ true
-  asked-keeps e (offer m time) w = offer-keeps t o s e m time (and-left (words m) _ w) (and-right (words m) _ w)
-  asked-keeps e (give take time) w = take-keeps t o s e time w
-  asked-keeps e (give force time) w = force-keeps t o s e time w
-  asked-keeps e close w = close-keeps t o s e
-
-  pub asked-others : (j : Key) → sameKey j (namedOf o s .key) ≡ false → (c : Call) → small c ≡ true → rowFor j (asked t o s c .after) ≡ rowFor j t
-  asked-others j d (offer m time) w = offer-others t o s j d m time (and-left (words m) _ w) (and-right (words m) _ w)
-  asked-others j d (give take time) w = take-others t o s j d time w
-  asked-others j d (give force time) w = force-others t o s j d time w
-  asked-others j d close w = close-others t o s j d
+  pub asked-moves : (c : Call) → small c ≡ true → Move t (namedOf o s .key) (asked t o s c)
+  asked-moves (offer m time) w = offer-moves t o s time (and-right (words m) _ w) m (and-left (words m) _ w)
+  asked-moves (give take time) w = take-moves t o s time w
+  asked-moves (give force time) w = force-moves t o s time w
+  asked-moves close w = close-moves t o s
 
   -- names that are no names are refused before any row is looked for
   no-originator : keepsTable t ≡ true → callsign o ≡ false → (c : Call) → asked t o s c ≡ refuse noCallsign t

@@ -9,19 +9,19 @@ use mathlib.Core.Logic.{_⊎_, inl, inr}
 use borrow.Author.Tests.{lt-ltb, ltb-true, le-leb, leb-true, ne-eqb, eq-eqb}
 use Rattle.octets.specs.Words.{_or_, _<?_, _=?_}
 use Rattle.octets.proofs.Tests.{and-left, and-right, and-both, or-left, or-next, true-not-false}
-use Rattle.rows.specs.declared.Held.{Held}
+use Rattle.places.specs.declared.Held.{Held}
 use Rattle.rows.specs.Stream.{Stream, fresh, ascending, insert, gapOpen, due, accept, stay, give}
 use Rattle.rows.specs.Steps.{startAfter}
 use Rattle.rows.proofs.Rules.{Kept}
-use Rattle.history.specs.History.{Way, take, Event, accepts, gives, gives-nothing, History, opened, restored, _▷_, Sent, sent, accepted, given, next, told, count, countHeld, numbered, In, Gap, OpenSince, MayPass, Rightly, Fair, Ordered}
+use Rattle.history.specs.History.{Way, take, Event, accepts, gives, gives-nothing, History, opened, restored, _▷_, Sent, sent, accepted, givenOut, next, told, count, countHeld, numbered, In, Gap, OpenSince, MayPass, Rightly, Fair, Ordered}
 use Rattle.history.proofs.Counting.{bit-is, count-append, held-append, held-insert, first-low, rest-order, held-low, held-once, Within, within-rises, within-more, count-high, count-once, in-append, in-last, in-insert, one-of}
 
 -- the numbers: e is the next of h, and l is what h accepted and did not give out
 pub record Tally (h : History) (e : ℕ) (l : List Held) : Type 0 where
   pub next-is : next h ≡ e
-  pub counted : (p : Sent → Bool) → countHeld p (accepted h) ≡ count p (given h) + countHeld p l
+  pub counted : (p : Sent → Bool) → countHeld p (accepted h) ≡ count p (givenOut h) + countHeld p l
   pub came : (m : Held) → In m l → In m (accepted h)
-  pub rising : Within 0 e (given h)
+  pub rising : Within 0 e (givenOut h)
   pub order : ascending e l ≡ true
 
 pub record Sound (h : History) (s : Stream) : Type 0 where
@@ -40,7 +40,7 @@ gap-shows h e (m ∷ l) k t =
     let lt : e < m .number = ltb-true e (m .number) t in
     let o : ascending (m .number) (m ∷ l) ≡ true = and-both _ _ (le-leb (m .number) (m .number) (omega arith)) (rest-order e m l (k .order)) in (
       (m .number, omega (arith, k .counted (numbered (m .number)), bit-is (m .number) (m .number) refl)),
-      rw (k .next-is) (omega (arith, k .counted (numbered e), count-high e 0 e (given h) (omega arith) (k .rising), held-low e (m .number) (m ∷ l) lt o)),
+      rw (k .next-is) (omega (arith, k .counted (numbered e), count-high e 0 e (givenOut h) (omega arith) (k .rising), held-low e (m .number) (m ∷ l) lt o)),
     )
 
 pub gap-tests : (h : History) (e : ℕ) (l : List Held) → Tally h e l → Gap h → gapOpen e l ≡ true
@@ -152,8 +152,8 @@ module _ (h : History) (s : Stream) (k : Sound h s) where
     order : ascending (s .expected) (m ∷ rest) ≡ true
     order = subst (λ (l : List Held). ascending (s .expected) l ≡ true) is (k .tally .order)
 
-    counts : (p : Sent → Bool) → countHeld p (accepted h) ≡ count p (given h) + countHeld p (m ∷ rest)
-    counts p = subst (λ (l : List Held). countHeld p (accepted h) ≡ count p (given h) + countHeld p l) is (k .tally .counted p)
+    counts : (p : Sent → Bool) → countHeld p (accepted h) ≡ count p (givenOut h) + countHeld p (m ∷ rest)
+    counts p = subst (λ (l : List Held). countHeld p (accepted h) ≡ count p (givenOut h) + countHeld p l) is (k .tally .counted p)
 
     event : Event
     event = gives way (m .number) (m .slip) time
@@ -164,7 +164,7 @@ module _ (h : History) (s : Stream) (k : Sound h s) where
       missing = λ i le lt. omega (
         arith,
         counts (numbered i),
-        count-high i 0 (s .expected) (given h) (omega (arith, k .tally .next-is)) (k .tally .rising),
+        count-high i 0 (s .expected) (givenOut h) (omega (arith, k .tally .next-is)) (k .tally .rising),
         held-low i (m .number) (m ∷ rest) lt (and-both _ _ (le-leb (m .number) (m .number) (omega arith)) (rest-order (s .expected) m rest order)),
       );
       passes = pass;
@@ -173,9 +173,9 @@ module _ (h : History) (s : Stream) (k : Sound h s) where
     tally-give : Tally (h ▷ gives way (m .number) (m .slip) time) (m .number + 1) rest
     tally-give = record {
       next-is = refl;
-      counted = λ p. omega (arith, counts p, count-append p (given h) (sent m ∷ []));
+      counted = λ p. omega (arith, counts p, count-append p (givenOut h) (sent m ∷ []));
       came = λ x i. k .tally .came x (subst (λ (l : List Held). In x l) (sym is) (inr i));
-      rising = within-more 0 (s .expected) (sent m) (given h) (first-low (s .expected) m rest order) (k .tally .rising);
+      rising = within-more 0 (s .expected) (sent m) (givenOut h) (first-low (s .expected) m rest order) (k .tally .rising);
       order = rest-order (s .expected) m rest order;
     }
 
@@ -215,26 +215,26 @@ module _ (h : History) (s : Stream) (k : Sound h s) (m : Held) (rest : List Held
       let p : 0 < m .timeout = ltb-true 0 (m .timeout) (and-left (0 <? m .timeout) _ w) in
       let q : m .timeout ≤ max (s .clock) time - s .gapStart = leb-true (m .timeout) _ (and-right (0 <? m .timeout) _ w) in
       let g : gapOpen (s .expected) (s .held) ≡ true = ap (gapOpen (s .expected)) is ∙ lt-ltb (s .expected) (m .number) e in
-      (m, k .tally .came m (subst (λ (l : List Held). In m l) (sym is) (inl refl)), refl, p, (s .gapStart, k .stood g, omega (arith, k .told-is)))
+      (m, k .tally .came m (subst (λ (l : List Held). In m l) (sym is) (inl refl)), refl, omega arith, (s .gapStart, k .stood g, omega (arith, k .told-is)))
 
 -- no number was accepted twice
 pub once : (h : History) (s : Stream) → Sound h s → (n : ℕ) → countHeld (numbered n) (accepted h) ≤ 1
 once h s k n = go (decLe (s .expected) n)
   where
     go : Dec (s .expected ≤ n) → countHeld (numbered n) (accepted h) ≤ 1
-    go (yes le) = omega (arith, k .tally .counted (numbered n), count-high n 0 (s .expected) (given h) le (k .tally .rising), held-once n (s .expected) (s .held) (k .tally .order))
+    go (yes le) = omega (arith, k .tally .counted (numbered n), count-high n 0 (s .expected) (givenOut h) le (k .tally .rising), held-once n (s .expected) (s .held) (k .tally .order))
     go (no gt) = omega (
       arith,
       k .tally .counted (numbered n),
       held-low n (s .expected) (s .held) (omega arith) (k .tally .order),
-      count-once n 0 (given h) (within-rises 0 (s .expected) (given h) (k .tally .rising)),
+      count-once n 0 (givenOut h) (within-rises 0 (s .expected) (givenOut h) (k .tally .rising)),
     )
 
 pub ordered : (h : History) (s : Stream) → Sound h s → Ordered h (s .held)
 ordered h s k = record {
   kept = k .tally .counted;
   once = once h s k;
-  rises = within-rises 0 (s .expected) (given h) (k .tally .rising);
+  rises = within-rises 0 (s .expected) (givenOut h) (k .tally .rising);
   waits = rw (k .tally .next-is) (k .tally .order);
   fair = k .fair;
 }

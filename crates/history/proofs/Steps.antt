@@ -2,8 +2,9 @@
 use Prim.Native.Nat.{ℕ, max}
 use mathlib.Core.Path.{_≡_, refl, ap, _∙_}
 use mathlib.Core.Bool.{true}
+use mathlib.Core.List.{List, [], _∷_}
 use Rattle.octets.proofs.Tests.{and-left, and-right}
-use Rattle.rows.specs.declared.Held.{Held}
+use Rattle.places.specs.declared.Held.{Held}
 use Rattle.rows.specs.Answer.{Outcome}
 use Rattle.rows.specs.Stream.{Stream, word, words, keeps}
 use Rattle.rows.specs.Stream as row
@@ -11,8 +12,8 @@ use Rattle.rows.proofs.Rules.{kept}
 use Rattle.rows.proofs.Keeps.{offer-keeps}
 use Rattle.rows.proofs.Cases.{by-offer, by-take, by-force}
 use Rattle.history.specs.History.{take, force, History}
-use Rattle.history.specs.Chain.{Call, offer, give, close, small, noted, rowCall, replay}
-use Rattle.history.proofs.Sound.{Sound, sound-stay, sound-accept, sound-give, due-passes}
+use Rattle.history.specs.Chain.{Call, offer, give, close, small, noted, closing, rowCall, replay}
+use Rattle.history.proofs.Sound.{Sound, sound-opened, sound-stay, sound-accept, sound-give, due-passes}
 
 -- the row is tied to its history, and is the one to which the history leads
 pub record Led (h : History) (s : Stream) : Type 0 where
@@ -55,8 +56,13 @@ module _ (h : History) (s : Stream) (k : Led h s) where
         })
         refl
 
+  -- a close ends the history, or is refused
+  step-close : (l : List Held) → Led (noted h close (closing s l .answer)) (closing s l .after)
+  step-close [] = record { sound = sound-opened; is = refl }
+  step-close (m ∷ l) = k
+
   pub step-led : keeps s ≡ true → (c : Call) → small c ≡ true → Led (noted h c (rowCall s c .answer)) (rowCall s c .after)
   step-led e (offer m time) w = step-offer time m e (and-left (words m) _ w) (and-right (words m) _ w)
   step-led e (give take time) w = step-take time
   step-led e (give force time) w = step-force time
-  step-led e close w = k
+  step-led e close w = step-close (s .held)

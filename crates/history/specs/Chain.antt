@@ -1,17 +1,18 @@
--- Demand 3's chain: calls on the table, saves and loads, each handed the table as the one before left it, the first an empty one.
+-- Demand 3's chain: calls on the table and loads, each handed the table as the one before left it, the first an empty one; and the images
+-- that saves of such tables wrote.
 use Prim.Native.Nat.{ℕ, max}
 use mathlib.Core.Path.{_≡_}
 use mathlib.Core.Bool.{Bool, true}
 use mathlib.Core.List.{List, [], _∷_}
-use mathlib.Core.Logic.{_⊎_}
 use mathlib.Core.Option.{Option, none, some}
 use lib.ListN as list
 use Rattle.octets.specs.Words.{if_then_else_, _and_}
 use Rattle.keys.specs.declared.Key.{Key}
 use Rattle.keys.specs.Key.{sameKey, namedOf}
-use Rattle.rows.specs.declared.Held.{Held}
+use Rattle.places.specs.declared.Held.{Held}
 use Rattle.rows.specs.declared.Row.{Row}
-use Rattle.rows.specs.Answer.{Answer, accepted, given, nothing, refused, Outcome}
+use Rattle.refusals.specs.Numbers.{stillHolding}
+use Rattle.rows.specs.Answer.{Answer, accepted, given, nothing, refused, Outcome, refuse}
 use Rattle.rows.specs.Stream.{Stream, fresh, word, words}
 use Rattle.rows.specs.Stream as row
 use Rattle.rows.specs.Row.{streamOf}
@@ -85,37 +86,37 @@ mine k (answered l o s c a) = if sameKey k (namedOf o s .key) then noted (mine k
 
 -- ---- the chain
 
--- an image that a save wrote, and the log at that save
-pub record Backup : Type 0 where
-  pub image : List ℕ
-  pub log : Log
+-- the image that a save of the table wrote: the save was not refused, and left the image at its buffer's front
+pub record Saved (t : Table) (image : List ℕ) : Type 0 where
+  pub buffer : List ℕ
+  pub size : ℕ
+  pub written-as : saveOf t buffer .answer ≡ written size
+  pub is : image ≡ list.take size (saveOf t buffer .buffer)
 
-abbrev pub OneOf : Backup → List Backup → Type 0
-OneOf b [] = ⊥
-OneOf b (c ∷ bs) = (b ≡ c) ⊎ OneOf b bs
-
--- `Chain bs l t`: a chain that left the table t; l is the log that counts, and bs are the images that its saves wrote
-pub data Chain : List Backup → Log → Table → Type 0 where
-  begins : Chain [] start empty
-  asks : {bs : List Backup} {l : Log} {t : Table} → Chain bs l t → (o s : List ℕ) (c : Call) → small c ≡ true
-      → Chain bs (answered l o s c (asked t o s c .answer)) (asked t o s c .after)
-  -- a save that is not refused leaves its image at the buffer's front
-  saves : {bs : List Backup} {l : Log} {t : Table} → Chain bs l t → (buffer : List ℕ) (n : ℕ) → saveOf t buffer .answer ≡ written n
-      → Chain (record { image = list.take n (saveOf t buffer .buffer); log = l } ∷ bs) l t
-  -- after a load of an image that an earlier save wrote, the log that counts is that before the save
-  loads-own : {bs : List Backup} {l : Log} {t : Table} → Chain bs l t → (b : Backup) → OneOf b bs → Chain bs (b .log) (loadOf t (b .image) .after)
+-- `Chain l t`: a chain that left the table t; l is the log that counts. A save leaves the table as it was
+pub data Chain : Log → Table → Type 0 where
+  begins : Chain start empty
+  asks : {l : Log} {t : Table} → Chain l t → (o s : List ℕ) (c : Call) → small c ≡ true
+      → Chain (answered l o s c (asked t o s c .answer)) (asked t o s c .after)
+  -- after a load of an image that a save of ours wrote, in this chain or in another, the log that counts is that of the chain at the save;
+  -- so a restart is: `begins`, then a load of the image saved before
+  loads-own : {l k : Log} {t u : Table} → Chain l t → Chain k u → (image : List ℕ) → Saved u image → Chain k (loadOf t image .after)
   -- after a load of any other image it begins there; a load that is refused changes nothing
-  loads-other : {bs : List Backup} {l : Log} {t : Table} → Chain bs l t → (image : List ℕ) → loadOf t image .answer ≡ accepted
-      → Chain bs (loaded (loadOf t image .after)) (loadOf t image .after)
-  loads-none : {bs : List Backup} {l : Log} {t : Table} → Chain bs l t → (image : List ℕ) (n : ℕ) → loadOf t image .answer ≡ refused n → Chain bs l (loadOf t image .after)
+  loads-other : {l : Log} {t : Table} → Chain l t → (image : List ℕ) → loadOf t image .answer ≡ accepted → Chain (loaded (loadOf t image .after)) (loadOf t image .after)
+  loads-none : {l : Log} {t : Table} → Chain l t → (image : List ℕ) (n : ℕ) → loadOf t image .answer ≡ refused n → Chain l (loadOf t image .after)
 
 -- ---- a row by itself, led by its own history
+
+-- a close ends the row with nothing held, and is refused otherwise
+abbrev pub closing : Stream → List Held → Outcome Stream
+closing s [] = record { answer = accepted; after = fresh }
+closing s (lowest ∷ rest) = refuse stillHolding s
 
 abbrev pub rowCall : Stream → Call → Outcome Stream
 rowCall s (offer m time) = row.offer s m time
 rowCall s (give take time) = row.take s time
 rowCall s (give force time) = row.force s time
-rowCall s close = record { answer = nothing; after = s }
+rowCall s close = closing s (s .held)
 
 abbrev pub replay : History → Stream
 replay opened = fresh

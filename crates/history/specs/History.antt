@@ -6,7 +6,7 @@ use mathlib.Core.Bool.{Bool, true}
 use mathlib.Core.List.{List, [], _∷_, _++_}
 use mathlib.Core.Logic.{_⊎_}
 use Rattle.octets.specs.Words.{if_then_else_, _=?_}
-use Rattle.rows.specs.declared.Held.{Held}
+use Rattle.places.specs.declared.Held.{Held}
 use Rattle.rows.specs.Stream.{Stream, ascending}
 
 -- a take gives what is due; a force is an operator's order
@@ -20,7 +20,7 @@ pub data Event : Type 0 where
   gives : (way : Way) (number slip time : ℕ) → Event
   gives-nothing : (time : ℕ) → Event
 
--- a history begins where a row is opened, or where an image brings a row that this chain of calls did not save; the oldest event stands first
+-- a history begins where a row is opened, or where an image that no save of ours wrote brings a row; the oldest event stands first
 infixl 20 _▷_
 pub data History : Type 0 where
   opened : History
@@ -45,12 +45,12 @@ accepted (h ▷ accepts m time) = accepted h ++ (m ∷ [])
 accepted (h ▷ gives way n slip time) = accepted h
 accepted (h ▷ gives-nothing time) = accepted h
 
-abbrev pub given : History → List Sent
-given opened = []
-given (restored r) = []
-given (h ▷ accepts m time) = given h
-given (h ▷ gives way n slip time) = given h ++ (record { number = n; slip = slip } ∷ [])
-given (h ▷ gives-nothing time) = given h
+abbrev pub givenOut : History → List Sent
+givenOut opened = []
+givenOut (restored r) = []
+givenOut (h ▷ accepts m time) = givenOut h
+givenOut (h ▷ gives way n slip time) = givenOut h ++ (record { number = n; slip = slip } ∷ [])
+givenOut (h ▷ gives-nothing time) = givenOut h
 
 -- the number after the latest given out
 abbrev pub next : History → ℕ
@@ -101,7 +101,7 @@ Rises low (x ∷ l) = (low ≤ x .number) × Rises (x .number + 1) l
 
 -- the gap is open: some number was accepted and not given out, and the next was not accepted
 abbrev pub Gap : History → Type 0
-Gap h = ((n : ℕ) × (count (numbered n) (given h) < countHeld (numbered n) (accepted h))) × (countHeld (numbered (next h)) (accepted h) ≡ 0)
+Gap h = ((n : ℕ) × (count (numbered n) (givenOut h) < countHeld (numbered n) (accepted h))) × (countHeld (numbered (next h)) (accepted h) ≡ 0)
 
 abbrev pub GivesNone : Event → Type 0
 GivesNone (accepts m time) = Unit {0}
@@ -140,11 +140,11 @@ Fair (h ▷ gives-nothing time) = Fair h
 -- what holds of a stream's history and of what is held after it
 pub record Ordered (h : History) (held : List Held) : Type 0 where
   -- whatever the test, as many messages that pass it were accepted as were given out and are still held
-  pub kept : (p : Sent → Bool) → countHeld p (accepted h) ≡ count p (given h) + countHeld p held
+  pub kept : (p : Sent → Bool) → countHeld p (accepted h) ≡ count p (givenOut h) + countHeld p held
   -- and no number was accepted twice
   pub once : (n : ℕ) → countHeld (numbered n) (accepted h) ≤ 1
   -- the numbers given out strictly rise, and what is held comes after them
-  pub rises : Rises 0 (given h)
+  pub rises : Rises 0 (givenOut h)
   pub waits : ascending (next h) held ≡ true
   -- numbers are passed over only as they may be
   pub fair : Fair h

@@ -13,11 +13,11 @@ use Rattle.octets.specs.Bytes.{Bytes, same}
 use Rattle.octets.specs.Field.{Res, bad, got}
 use Rattle.octets.proofs.Tests.{and-left, and-right}
 use Rattle.octets.proofs.Lists.{same-refl, same-eq}
-use Rattle.streams.specs.declared.Slot.{Slot}
+use Rattle.slots.specs.declared.Slot.{Slot}
 use Rattle.streams.specs.declared.Table.{Table}
 use Rattle.streams.specs.Table.{keepsTable}
 use Rattle.streams.proofs.Lookups.{kept}
-use Rattle.image.specs.Image.{endRecord, recordsFrom, openRows, imageOf, slotsFrom, ended, tableOf}
+use Rattle.image.specs.Image.{endRecord, recordsFrom, rowCount, imageOf, slotsFrom, ended, tableOf}
 use Rattle.image.proofs.Rows.{rows-back, rows-forth}
 
 pub saved-read : (t : Table) → keepsTable t ≡ true → tableOf (imageOf t) ≡ some t
@@ -25,9 +25,9 @@ unfolding imageOf tableOf
 saved-read t e =
     let k = kept t e in
     let l = t .slots in
-    let s = recordsFrom 0 l ++ endRecord (openRows l) in
-    let b : slotsFrom 32 0 s ≡ got l (length (recordsFrom 0 l)) = ap (λ (n : ℕ). slotsFrom n 0 s) (sym (k .long)) ∙ rows-back l 0 (openRows l) (k .each) in
-    ap (ended s) b ∙ rw (drop-append-seam (recordsFrom 0 l) (endRecord (openRows l)), same-refl (endRecord (openRows l)), e)
+    let s = recordsFrom 0 l ++ endRecord (rowCount l) in
+    let b : slotsFrom 32 0 s ≡ got l (length (recordsFrom 0 l)) = ap (λ (n : ℕ). slotsFrom n 0 s) (sym (k .long)) ∙ rows-back l 0 (rowCount l) (k .each) in
+    ap (ended s) b ∙ rw (drop-append-seam (recordsFrom 0 l) (endRecord (rowCount l)), same-refl (endRecord (rowCount l)), e)
 
 pub record Read (s : List ℕ) (t : Table) : Type 0 where
   pub keeps : keepsTable t ≡ true
@@ -42,11 +42,11 @@ unfolding imageOf
 read-by s t bad p hs e = let z : _≡_ {A = ℕ} 0 1 = cc in absurd (omega arith)
 read-by s t (got l n) p hs e =
     let u : Table = record { slots = l } in
-    let c = chosen (same (drop n s) (endRecord (openRows l)) and keepsTable u) u t e in
-    let m = same-eq (drop n s) (endRecord (openRows l)) (and-left _ _ (c .0)) in
+    let c = chosen (same (drop n s) (endRecord (rowCount l)) and keepsTable u) u t e in
+    let m = same-eq (drop n s) (endRecord (rowCount l)) (and-left _ _ (c .0)) in
     subst (Read s) (c .1)
     (record {
-      keeps = and-right (same (drop n s) (endRecord (openRows l))) _ (c .0);
+      keeps = and-right (same (drop n s) (endRecord (rowCount l))) _ (c .0);
       is = sym (rows-forth 32 0 s l n hs p ∙ ap (λ (w : List ℕ). recordsFrom 0 l ++ w) m);
     })
 

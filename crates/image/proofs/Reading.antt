@@ -13,7 +13,7 @@ use Rattle.octets.proofs.Tests.{if-yes, if-no, no-true, no-false, and-both, and
 use Rattle.octets.proofs.FieldLaws.{bound}
 use Rattle.refusals.specs.Numbers.{stateBroken, noSavedImage}
 use Rattle.rows.specs.Answer.{accepted, Outcome, refuse}
-use Rattle.streams.specs.declared.Slot.{Slot}
+use Rattle.slots.specs.declared.Slot.{Slot}
 use Rattle.streams.specs.declared.Table.{Table}
 use Rattle.streams.specs.declared.Count.{Count}
 use Rattle.streams.specs.Answer.{Counted, counted, uncounted, countSays}
@@ -23,7 +23,7 @@ use Rattle.streams.proofs.Lookups.{kept}
 use Rattle.image_rows.specs.declared.RowsRead.{RowsRead}
 use Rattle.image_rows.specs.Steps.{rowsRead}
 use Rattle.image_rows.proofs.Reading.{from, rest, slot-takes}
-use Rattle.image.specs.Image.{endRecord, openRows, slotFrom, slotsFrom, ended, tableOf, replaced, loadOf}
+use Rattle.image.specs.Image.{endRecord, rowCount, slotFrom, slotsFrom, ended, tableOf, replaced, loadOf}
 
 -- ---- what counting the open rows says of a table
 
@@ -37,15 +37,15 @@ count-most (x ∷ l) = go (x .used) (count-most l)
 
 pub record Rules (t : Table) (n : ℕ) : Type 0 where
   pub keeps : keepsTable t ≡ true
-  pub rows : n ≡ openRows (t .slots)
+  pub rows : n ≡ rowCount (t .slots)
   pub few : n ≤ 32
 
 module _ (t : Table) where
-  by-count : (P : Counted → Type 0) → (keepsTable t ≡ false → P (uncounted stateBroken)) → (keepsTable t ≡ true → P (counted (openRows (t .slots)))) → P (calls.openRows t)
+  by-count : (P : Counted → Type 0) → (keepsTable t ≡ false → P (uncounted stateBroken)) → (keepsTable t ≡ true → P (counted (rowCount (t .slots)))) → P (calls.openRows t)
   unfolding calls.openRows
   by-count P a b = go (keepsTable t) refl
     where
-      go : (k : Bool) → keepsTable t ≡ k → P (if no k then uncounted stateBroken else counted (openRows (t .slots)))
+      go : (k : Bool) → keepsTable t ≡ k → P (if no k then uncounted stateBroken else counted (rowCount (t .slots)))
       go false e = a e
       go true e = b e
 
@@ -56,9 +56,9 @@ module _ (t : Table) where
         not-counted : {A : Type 0} {m : ℕ} → counted n ≡ uncounted m → A
         not-counted q = let z : _≡_ {A = ℕ} 0 1 = cc in absurd (omega arith)
 
-        kept-rows : keepsTable t ≡ true → counted n ≡ counted (openRows (t .slots)) → Rules t n
+        kept-rows : keepsTable t ≡ true → counted n ≡ counted (rowCount (t .slots)) → Rules t n
         kept-rows k q =
-            let z : n ≡ openRows (t .slots) = cc in
+            let z : n ≡ rowCount (t .slots) = cc in
             record { keeps = k; rows = z; few = omega (arith, count-most (t .slots), kept t k .long) }
 
     pub no-rules : (n : ℕ) → c ≡ Count.Refused n → keepsTable t ≡ false
@@ -103,18 +103,18 @@ module _ (t : Table) (s : List ℕ) where
       load-room = rows-take 32 0 s (r .table .slots) (r .used) read
 
       abbrev good : Bool
-      good = same (drop (r .used) s) (endRecord (openRows (r .table .slots))) and keepsTable (r .table)
+      good = same (drop (r .used) s) (endRecord (rowCount (r .table .slots))) and keepsTable (r .table)
 
       load-by : loadOf t s ≡ replaced t (if good then some (r .table) else none)
       unfolding loadOf tableOf
       load-by = if-no _ _ _ (no-true _ k) ∙ ap (λ (x : Res (List Slot)). replaced t (ended s x)) read
 
       pub load-breaks : keepsTable (r .table) ≡ false → refuse noSavedImage t ≡ loadOf t s
-      load-breaks f = sym (load-by ∙ ap (replaced t) (if-no _ _ _ (and-not-right (same (drop (r .used) s) (endRecord (openRows (r .table .slots)))) _ f)))
+      load-breaks f = sym (load-by ∙ ap (replaced t) (if-no _ _ _ (and-not-right (same (drop (r .used) s) (endRecord (rowCount (r .table .slots)))) _ f)))
 
       module _ (n : ℕ) (u : Rules (r .table) n) (b : Bool) (eb : b ≡ same (from (r .used) s) (endRecord n)) where
-        end-is : same (drop (r .used) s) (endRecord (openRows (r .table .slots))) ≡ b
-        end-is = ap (λ (l : List ℕ). same l (endRecord (openRows (r .table .slots)))) (sym (rest (r .used) s)) ∙ ap (λ (m : ℕ). same (from (r .used) s) (endRecord m)) (sym (u .rows)) ∙ sym eb
+        end-is : same (drop (r .used) s) (endRecord (rowCount (r .table .slots))) ≡ b
+        end-is = ap (λ (l : List ℕ). same l (endRecord (rowCount (r .table .slots)))) (sym (rest (r .used) s)) ∙ ap (λ (m : ℕ). same (from (r .used) s) (endRecord m)) (sym (u .rows)) ∙ sym eb
 
         pub load-end : b ≡ false → refuse noSavedImage t ≡ loadOf t s
         load-end e = sym (load-by ∙ ap (replaced t) (if-no _ _ _ (and-not-left _ (keepsTable (r .table)) (end-is ∙ e))))

@@ -19,11 +19,11 @@ use Rattle.keys.specs.Key.{keepsKey, isNoKey}
 use Rattle.keys.proofs.Names.{no-key}
 use Rattle.rows.specs.Row.{keepsRow}
 use Rattle.rows.proofs.Rules.{no-row}
-use Rattle.streams.specs.declared.Slot.{Slot}
+use Rattle.slots.specs.declared.Slot.{Slot}
 use Rattle.streams.specs.Table.{freeSlot, keepsSlot}
 use Rattle.records.specs.Record.{body}
 use Rattle.records.proofs.Laws.{body-laws, body-good, body-tidy}
-use Rattle.image.specs.Image.{rowMark, endRecord, recordOf, recordsFrom, opened, slotFrom, slotsFrom}
+use Rattle.image.specs.Image.{rowMark, endRecord, recordOf, recordsFrom, openSlot, slotFrom, slotsFrom}
 
 -- ---- a slot that keeps its rules
 
@@ -69,7 +69,7 @@ unmarked (x ∷ l) i j n h = go (x .used) (unmarked l (i + 1) j n (omega arith))
 printed : (x : Slot) (i : ℕ) → x .used ≡ true → recordOf i x ≡ rowMark i ++ body .print (x .key, x .row)
 printed x i e = if-yes _ _ _ e
 
-reopened : (x : Slot) → x .used ≡ true → opened (x .key, x .row) ≡ x
+reopened : (x : Slot) → x .used ≡ true → openSlot (x .key, x .row) ≡ x
 reopened x e = λ i. record { used = sym e i; key = x .key; row = x .row }
 
 slot-back : (x : Slot) (i : ℕ) (s : List ℕ) → keepsSlot x ≡ true → same (take 3 s) (rowMark i) ≡ false → slotFrom i (recordOf i x ++ s) ≡ got x (length (recordOf i x))
@@ -99,18 +99,18 @@ moved i s x y n m e f r = rw (e, f) r
 slot-forth : (i : ℕ) (s : List ℕ) (x : Slot) (n : ℕ) → Bytes s → slotFrom i s ≡ got x n → s ≡ recordOf i x ++ drop n s
 slot-forth i s x n hs = go (same (take 3 s) (rowMark i)) refl
   where
-    go : (b : Bool) → same (take 3 s) (rowMark i) ≡ b → (if b then bind (body .parse (drop 3 s)) (λ y k. got (opened y) (3 + k)) else got freeSlot 0) ≡ got x n
+    go : (b : Bool) → same (take 3 s) (rowMark i) ≡ b → (if b then bind (body .parse (drop 3 s)) (λ y k. got (openSlot y) (3 + k)) else got freeSlot 0) ≡ got x n
         → s ≡ recordOf i x ++ drop n s
     go false m e =
         let ex : x ≡ freeSlot = cc in
         let en : n ≡ 0 = cc in
         moved i s x freeSlot n 0 ex en refl
     go true m e =
-        let b = bound (body .parse (drop 3 s)) (λ y k. got (opened y) (3 + k)) x n e in
+        let b = bound (body .parse (drop 3 s)) (λ y k. got (openSlot y) (3 + k)) x n e in
         let r = body-laws .forth (drop 3 s) (b .val) (b .used) (bytes-drop 3 s hs) (b .first) in
-        let ex : x ≡ opened (b .val) = cc in
+        let ex : x ≡ openSlot (b .val) = cc in
         let en : n ≡ 3 + b .used = cc in
-        moved i s x (opened (b .val)) n (3 + b .used) ex en
+        moved i s x (openSlot (b .val)) n (3 + b .used) ex en
         (mark-stands i s m ∙ ap (λ (l : List ℕ). rowMark i ++ l) (r .same ∙ ap (λ (l : List ℕ). body .print (b .val) ++ l) (drop-drop (b .used) 3 s)))
 
 all-moved : (i : ℕ) (s : List ℕ) (l r : List Slot) (n m : ℕ) → l ≡ r → n ≡ m → s ≡ recordsFrom i r ++ drop m s → s ≡ recordsFrom i l ++ drop n s

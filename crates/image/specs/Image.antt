@@ -8,12 +8,12 @@ use Rattle.octets.specs.Bytes.{same, front}
 use Rattle.octets.specs.Field.{Res, bad, got}
 use Rattle.refusals.specs.Numbers.{stateBroken, bufferTooShort, noSavedImage}
 use Rattle.rows.specs.Answer.{accepted, Outcome, refuse}
-use Rattle.streams.specs.declared.Slot.{Slot}
+use Rattle.slots.specs.declared.Slot.{Slot}
 use Rattle.streams.specs.declared.Table.{Table}
 use Rattle.streams.specs.Table.{keepsTable, count}
 use Rattle.records.specs.Record.{body}
 use Rattle.image.specs.Answer.{written, SaveOutcome, unsaved}
-pub use Rattle.image_rows.specs.Rows.{rowMark, opened, slotFrom, slotsFrom}
+pub use Rattle.image_rows.specs.Rows.{rowMark, openSlot, slotFrom, slotsFrom}
 
 -- ---- the image
 
@@ -31,12 +31,12 @@ recordsFrom i [] = []
 recordsFrom i (x ∷ rest) = recordOf i x ++ recordsFrom (i + 1) rest
 
 -- how many rows are open
-abbrev pub openRows : List Slot → ℕ
-openRows = count (λ x. x .used)
+abbrev pub rowCount : List Slot → ℕ
+rowCount = count (λ x. x .used)
 
 -- THE IMAGE of a table: for each open row, in row order, its record; last, the end record
 unfoldable pub imageOf : Table → List ℕ
-imageOf t = recordsFrom 0 (t .slots) ++ endRecord (openRows (t .slots))
+imageOf t = recordsFrom 0 (t .slots) ++ endRecord (rowCount (t .slots))
 
 -- ---- what an image says
 
@@ -44,7 +44,7 @@ imageOf t = recordsFrom 0 (t .slots) ++ endRecord (openRows (t .slots))
 abbrev pub ended : List ℕ → Res (List Slot) → Option Table
 ended s bad = none
 ended s (got rows n) =
-    if same (drop n s) (endRecord (openRows rows)) and keepsTable (record { slots = rows }) then some (record { slots = rows }) else none
+    if same (drop n s) (endRecord (rowCount rows)) and keepsTable (record { slots = rows }) then some (record { slots = rows }) else none
 
 -- the table whose image it is, if there is one
 unfoldable pub tableOf : List ℕ → Option Table

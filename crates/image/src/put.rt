@@ -6,7 +6,7 @@ ghost use lib.ListN.{length};
 ghost use Rattle.octets.specs.Bytes.{placed};
 ghost use Rattle.streams.specs.Table.{keepsSlot, keepsTable};
 ghost use Rattle.image.specs.Image.{endRecord, recordOf, recordsFrom};
-use streams::Slot;
+use slots::Slot;
 use streams::Table;
 
 // How many bytes a row's record has with its mark and number; none where the row is free.

@@ -14,14 +14,14 @@ use Rattle.octets.proofs.Lists.{same-short, same-length}
 use Rattle.octets.proofs.FieldLaws.{bound}
 use Rattle.keys.specs.declared.Key.{Key}
 use Rattle.rows.specs.declared.Row.{Row}
-use Rattle.streams.specs.declared.Slot.{Slot}
+use Rattle.slots.specs.declared.Slot.{Slot}
 use Rattle.streams.specs.Table.{freeSlot}
 use Rattle.records.specs.declared.Reading.{Reading}
 use Rattle.records.specs.Record.{body, readingOf}
 use Rattle.records.proofs.Laws.{body-laws}
 use Rattle.records.proofs.Turns.{after, after-none, after-turn, taken-more}
 use Rattle.image_rows.specs.declared.walk.SlotRead.{SlotRead}
-use Rattle.image_rows.specs.Rows.{rowMark, opened, slotFrom, slotsFrom}
+use Rattle.image_rows.specs.Rows.{rowMark, openSlot, slotFrom, slotsFrom}
 use Rattle.image_rows.specs.Steps.{slotRead}
 
 -- the rest of a slice
@@ -72,10 +72,10 @@ module _ (i : ℕ) (s : List ℕ) where
 pub slot-takes : (i : ℕ) (s : List ℕ) (x : Slot) (n : ℕ) → slotFrom i s ≡ got x n → n ≤ length s
 slot-takes i s x n = go (same (take 3 s) (rowMark i)) refl
   where
-    go : (b : Bool) → same (take 3 s) (rowMark i) ≡ b → (if b then bind (body .parse (drop 3 s)) (λ y k. got (opened y) (3 + k)) else got freeSlot 0) ≡ got x n → n ≤ length s
+    go : (b : Bool) → same (take 3 s) (rowMark i) ≡ b → (if b then bind (body .parse (drop 3 s)) (λ y k. got (openSlot y) (3 + k)) else got freeSlot 0) ≡ got x n → n ≤ length s
     go false m e = let z : n ≡ 0 = cc in omega arith
     go true m e =
-        let b = bound (body .parse (drop 3 s)) (λ y k. got (opened y) (3 + k)) x n e in
+        let b = bound (body .parse (drop 3 s)) (λ y k. got (openSlot y) (3 + k)) x n e in
         let z : n ≡ 3 + b .used = cc in
         omega (arith, body-laws .room (drop 3 s) (b .val) (b .used) (b .first), length-drop 3 s, marked-room i s m)
 

@@ -8,7 +8,7 @@ use Rattle.octets.specs.Bytes.{same}
 use Rattle.octets.specs.Field.{Res, got, bind}
 use Rattle.keys.specs.declared.Key.{Key}
 use Rattle.rows.specs.declared.Row.{Row}
-use Rattle.streams.specs.declared.Slot.{Slot}
+use Rattle.slots.specs.declared.Slot.{Slot}
 use Rattle.streams.specs.Table.{freeSlot}
 use Rattle.records.specs.Record.{body}
 
@@ -17,12 +17,12 @@ abbrev pub rowMark : ℕ → List ℕ
 rowMark i = 0x53 ∷ 0x54 ∷ i ∷ []
 
 -- a record's key and row, in an open row
-abbrev pub opened : Key × Row → Slot
-opened x = record { used = true; key = x .0; row = x .1 }
+abbrev pub openSlot : Key × Row → Slot
+openSlot x = record { used = true; key = x .0; row = x .1 }
 
 -- row i: the record where the mark with its number stands, else free
 abbrev pub slotFrom : ℕ → List ℕ → Res Slot
-slotFrom i s = if same (take 3 s) (rowMark i) then bind (body .parse (drop 3 s)) (λ x n. got (opened x) (3 + n)) else got freeSlot 0
+slotFrom i s = if same (take 3 s) (rowMark i) then bind (body .parse (drop 3 s)) (λ x n. got (openSlot x) (3 + n)) else got freeSlot 0
 
 -- k rows in row order, from i on
 abbrev pub slotsFrom : ℕ → ℕ → List ℕ → Res (List Slot)

@@ -2,7 +2,7 @@
 use mathlib.Core.Bool.{true, false}
 use mathlib.Core.List.{List}
 use Rattle.octets.specs.Field.{Res, bad, got}
-use Rattle.streams.specs.declared.Slot.{Slot}
+use Rattle.slots.specs.declared.Slot.{Slot}
 use Rattle.streams.specs.Table.{freeSlot, empty}
 use Rattle.image_rows.specs.declared.walk.SlotRead.{SlotRead}
 use Rattle.image_rows.specs.declared.RowsRead.{RowsRead}

@@ -6,6 +6,7 @@ ghost use Rattle.image_rows.specs.Steps.{rowsRead};
 
 mod walk;
 
+use slots::Slot;
 use streams::Table;
 
 // The rows that an image begins with, and how many bytes they took; where its bytes are no rows, an empty table.
@@ -30,7 +31,7 @@ fn no_rows() -> RowsRead
 pub fn read_rows(d: &[u8]) -> RowsRead
     ensures { λ r. ⌜ r ≡ rowsRead (slotsFrom 32 0 (now (d .entry))) ⌝ }
 {
-    let free = walk::free_slot();
+    let free = Slot::free();
     let mut slots = [free; 32];
     let mut at: usize = 0;
     let mut i: usize = 0;

@@ -2,28 +2,14 @@
 ghost use mathlib.Core.Path.{_≡_};
 ghost use lib.ListN.{take};
 ghost use Rattle.octets.specs.Bytes.{same};
-ghost use Rattle.streams.specs.Table.{freeSlot};
 ghost use Rattle.image_rows.specs.Rows.{rowMark, slotFrom};
 ghost use Rattle.image_rows.specs.Steps.{slotRead};
-use rows::Row;
-use streams::Slot;
+use slots::Slot;
 
 pub(crate) struct SlotRead {
     pub good: bool,
     pub used: usize,
     pub slot: Slot,
-}
-
-pub(crate) fn free_slot() -> Slot
-    ensures { λ r. ⌜ r ≡ freeSlot ⌝ }
-{
-    let key = keys::none();
-    let row = Row::none();
-    Slot {
-        used: false,
-        key: key,
-        row: row,
-    }
 }
 
 // Whether the mark with the row number i stands at the front.
@@ -40,7 +26,7 @@ fn is_marked(d: &[u8], i: u8) -> bool
 pub(crate) fn read_slot(d: &[u8], i: u8) -> SlotRead
     ensures { λ r. ⌜ r ≡ slotRead (slotFrom i (now (d .entry))) ⌝ }
 {
-    let free = free_slot();
+    let free = Slot::free();
     if !is_marked(d, i) {
         return SlotRead {
             good: true,

@@ -1,4 +1,5 @@
 -- Laws of keys.
 pub mod Names
 pub mod SameKey
+pub mod Marks
 pub mod Unique

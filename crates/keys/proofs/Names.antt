@@ -4,11 +4,11 @@ use Prim.Native.Nat.{ℕ, zero, suc, _+_, _-_, _≤_, _<_}
 use native.Mathlib.Omega.{arith}
 use mathlib.Core.Bool.{Bool, true, false}
 use mathlib.Core.List.{List, [], _∷_}
-use lib.ListN.{length, take, drop, replicate, length-append, length-drop, length-replicate, drop-of-length-le}
+use lib.ListN.{length, take, drop, replicate, length-append, length-drop, length-replicate}
 use lib.Seq.{take-append-seam, drop-append-seam}
-use borrow.Author.Tests.{eq-eqb, ne-eqb, eqb-true, le-leb, lt-leb}
+use borrow.Author.Tests.{eq-eqb, eqb-true, le-leb, lt-leb}
 use Rattle.octets.specs.Words.{_and_, _≤?_, _=?_}
-use Rattle.octets.specs.Bytes.{front, placed}
+use Rattle.octets.specs.Bytes.{front, placed, allZero}
 use Rattle.octets.proofs.Tests.{and-left, and-right, and-both, and-next, and-not-left}
 use Rattle.octets.proofs.Lists.{placed-in}
 use Rattle.callsigns.specs.Callsign.{callsign}
@@ -16,25 +16,25 @@ use Rattle.names.specs.Texts.{streamId}
 use Rattle.names.proofs.Lengths.{streamId-short}
 use Rattle.callsigns.proofs.Lengths.{callsign-short}
 use Rattle.keys.specs.declared.Key.{Key}
-use Rattle.keys.specs.Key.{originatorOf, streamIdOf, keyOf, noKey, zeros, isNoKey, holdsName, keepsKey}
+use Rattle.keys.specs.Key.{originatorOf, streamIdOf, keyOf, noKey, isNoKey, holdsName, keepsKey}
 
 -- copied to the place 0, a name stands in the front
 pub copied : (name buffer : List ℕ) → length name ≤ length buffer → placed name 0 buffer ≡ front name buffer
 copied name buffer h = let z : 0 + length name ≡ length name = omega arith in placed-in name 0 buffer (omega arith) ∙ rw z
 
-zeros-replicate : (n : ℕ) → zeros (replicate n 0) ≡ true
+zeros-replicate : (n : ℕ) → allZero (replicate n 0) ≡ true
 zeros-replicate zero = refl
 zeros-replicate (suc n) = zeros-replicate n
 
-zeros-drop : (n m : ℕ) → zeros (drop n (replicate m 0)) ≡ true
+zeros-drop : (n m : ℕ) → allZero (drop n (replicate m 0)) ≡ true
 zeros-drop zero m = zeros-replicate m
 zeros-drop (suc n) zero = refl
 zeros-drop (suc n) (suc m) = zeros-drop n m
 
-pub zeros-are : (l : List ℕ) (n : ℕ) → length l ≡ n → zeros l ≡ true → l ≡ replicate n 0
+pub zeros-are : (l : List ℕ) (n : ℕ) → length l ≡ n → allZero l ≡ true → l ≡ replicate n 0
 zeros-are l n e z = go l z ∙ ap (λ (k : ℕ). replicate k 0) e
   where
-    go : (l : List ℕ) → zeros l ≡ true → l ≡ replicate (length l) 0
+    go : (l : List ℕ) → allZero l ≡ true → l ≡ replicate (length l) 0
     go [] z = refl
     go (x ∷ l) z = let p = eqb-true x 0 (and-left (x =? 0) _ z) in let q = go l (and-right (x =? 0) _ z) in cc
 
@@ -45,7 +45,7 @@ holds-front size valid name v h =
     length-append name _ ∙ ap (λ (k : ℕ). length name + k) (length-drop (length name) (replicate size 0)) ∙ ap (λ (k : ℕ). length name + (k - length name)) (length-replicate size 0) ∙ omega arith in
     and-both _ _ (eq-eqb _ _ l)
     (and-both _ _ (le-leb _ _ h)
-    (and-both _ _ (ap valid (take-append-seam name _) ∙ v) (ap zeros (drop-append-seam name _) ∙ zeros-drop (length name) size)))
+    (and-both _ _ (ap valid (take-append-seam name _) ∙ v) (ap allZero (drop-append-seam name _) ∙ zeros-drop (length name) size)))
 
 module _ (o s : List ℕ) where
   pub originator-back : originatorOf (keyOf o s) ≡ o
@@ -71,8 +71,8 @@ no-key k e =
     let e3 = and-right (k .«stream_id_len» =? 0) _ e2 in
     let n = eqb-true (k .«originator_len») 0 (and-left _ _ e1) in
     let m = eqb-true (k .«stream_id_len») 0 (and-left _ _ e2) in
-    let a = zeros-are (k .originator) 12 (eqb-true (length (k .originator)) 12 (and-left _ _ l)) (and-left (zeros (k .originator)) _ e3) in
-    let b = zeros-are (k .«stream_id») 255 (eqb-true (length (k .«stream_id»)) 255 (and-right (length (k .originator) =? 12) _ l)) (and-right (zeros (k .originator)) _ e3) in
+    let a = zeros-are (k .originator) 12 (eqb-true (length (k .originator)) 12 (and-left _ _ l)) (and-left (allZero (k .originator)) _ e3) in
+    let b = zeros-are (k .«stream_id») 255 (eqb-true (length (k .«stream_id»)) 255 (and-right (length (k .originator) =? 12) _ l)) (and-right (allZero (k .originator)) _ e3) in
     λ i. record { originator = a i; «originator_len» = n i; «stream_id» = b i; «stream_id_len» = m i }
 
 -- what a valid key's names are
@@ -86,14 +86,7 @@ key-names k e = (
     valid : (size : ℕ) (p : List ℕ → Bool) (n : ℕ) (a : List ℕ) → holdsName size p n a ≡ true → p (take n a) ≡ true
     valid size p n a h = and-left (p (take n a)) _ (and-right (n ≤? size) _ (and-right (length a =? size) _ h))
 
--- past its end a list has no byte that is not zero
-pub zero-past : (l : List ℕ) (i : ℕ) → length l ≤ i → zeros (drop i l) ≡ true
-zero-past l i h = ap zeros (drop-of-length-le l {i = i} h)
-
 -- ---- what the tests of a name in its array come to
-pub holds-other : (size : ℕ) (valid : List ℕ → Bool) (n : ℕ) (a : List ℕ) → (length a ≡ size → ⊥) → false ≡ holdsName size valid n a
-holds-other size valid n a h = sym (and-not-left _ _ (ne-eqb _ _ h))
-
 module _ (size : ℕ) (valid : List ℕ → Bool) (n : ℕ) (a : List ℕ) (e : length a ≡ size) where
   pub holds-long : size < n → false ≡ holdsName size valid n a
   holds-long h = sym (and-next _ _ (eq-eqb _ _ e) ∙ and-not-left _ _ (lt-leb n size h))
@@ -101,7 +94,7 @@ module _ (size : ℕ) (valid : List ℕ → Bool) (n : ℕ) (a : List ℕ) (e : 
   pub holds-bad : n ≤ size → valid (take n a) ≡ false → false ≡ holdsName size valid n a
   holds-bad h v = sym (and-next _ _ (eq-eqb _ _ e) ∙ and-next _ _ (le-leb n size h) ∙ and-not-left _ _ v)
 
-  pub holds-good : n ≤ size → valid (take n a) ≡ true → zeros (drop n a) ≡ holdsName size valid n a
+  pub holds-good : n ≤ size → valid (take n a) ≡ true → allZero (drop n a) ≡ holdsName size valid n a
   holds-good h v = sym (and-next _ _ (eq-eqb _ _ e) ∙ and-next _ _ (le-leb n size h) ∙ and-next _ _ v)
 
 -- the code's key is that of its names

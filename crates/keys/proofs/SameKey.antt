@@ -1,15 +1,15 @@
 -- Equality of keys is an equivalence. Whoever keeps rows by key uses these laws and not what equality is made of.
 use Prim.Native.Nat.{ℕ}
-use mathlib.Core.Path.{_≡_, refl, sym}
+use mathlib.Core.Path.{_≡_, refl, sym, ap}
 use mathlib.Core.Bool.{Bool, true, false}
 use mathlib.Core.List.{List}
 use Rattle.octets.specs.Bytes.{same}
 use Rattle.octets.proofs.Tests.{and-left, and-right, and-both, and-next, and-not-left, true-not-false}
-use Rattle.octets.proofs.Lists.{same-refl, same-sym, same-trans}
+use Rattle.octets.proofs.Lists.{same-refl, same-eq, same-sym, same-trans}
 use Rattle.callsigns.specs.Callsign.{sameCall}
 use Rattle.callsigns.proofs.SameCall.{sameCall-refl, sameCall-sym, sameCall-trans}
 use Rattle.keys.specs.declared.Key.{Key}
-use Rattle.keys.specs.Key.{originatorOf, streamIdOf, sameKey}
+use Rattle.keys.specs.Key.{originatorOf, streamIdOf, sameKey, markOf}
 
 pub sameKey-refl : (k : Key) → sameKey k k ≡ true
 unfolding sameKey
@@ -41,6 +41,10 @@ sameKey-other i j k e = go (sameKey i k) (sameKey j k) refl refl
     go false false p q = refl
     go true false p q = true-not-false (sameKey j k) (sameKey-trans j i k (sameKey-sym i j e) p) q
     go false true p q = true-not-false (sameKey i k) (sameKey-trans i j k e q) p
+
+-- equal keys have equal marks
+pub marks-same : (j k : Key) → sameKey j k ≡ true → markOf (streamIdOf j) ≡ markOf (streamIdOf k)
+marks-same j k e = ap markOf (same-eq _ _ (ids j k e))
 
 -- ---- what the code's tests of two keys come to, a and b being the originators
 module _ (j k : Key) (a b : List ℕ) (p : a ≡ originatorOf j) (q : b ≡ originatorOf k) where

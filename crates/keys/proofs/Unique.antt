@@ -7,6 +7,8 @@ use Rattle.keys.proofs.name.Kinds as name-kinds
 use Rattle.keys.proofs.name.Reads as name-reads
 use Rattle.keys.proofs.same.Kinds as same-kinds
 use Rattle.keys.proofs.same.Reads as same-reads
+use Rattle.keys.proofs.mark.Kinds as mark-kinds
+use Rattle.keys.proofs.mark.Reads as mark-reads
 use Rattle.keys.proofs.keeps_rules.Kinds as keeps-rules-kinds
 use Rattle.keys.proofs.keeps_rules.Reads as keeps-rules-reads
 use Rattle.keys.proofs.is_none.Kinds as is-none-kinds
@@ -41,3 +43,9 @@ is-none-one κs a x y v w p q = (p ∙ sym q, refl)
 
 pub is-none-free : Free 0 is-none-kinds.ps is-none-reads.Pre
 is-none-free κs a = tt
+
+pub mark-one : One 0 mark-kinds.ps mark-kinds.r mark-reads.Post
+mark-one κs a x y v w p q = (p ∙ sym q, refl)
+
+pub mark-free : Free 0 mark-kinds.ps mark-reads.Pre
+mark-free κs a = tt

@@ -1,10 +1,10 @@
 -- Document 01, "Streams": "a row's key is originator and stream id". What a key is, when two are equal, and the rules that it keeps.
-use Prim.Native.Nat.{ℕ}
+use Prim.Native.Nat.{ℕ, _+_, _*_, _-_}
 use mathlib.Core.Bool.{Bool}
-use mathlib.Core.List.{List}
-use lib.ListN.{length, take, drop, replicate}
-use Rattle.octets.specs.Words.{if_then_else_, _and_, no, every, _≤?_, _=?_}
-use Rattle.octets.specs.Bytes.{same, front}
+use mathlib.Core.List.{List, [], _∷_}
+use lib.ListN.{length, take, drop, getD, replicate}
+use Rattle.octets.specs.Words.{if_then_else_, _and_, no, _≤?_, _=?_}
+use Rattle.octets.specs.Bytes.{same, front, allZero}
 use Rattle.refusals.specs.Numbers.{noCallsign, streamIdMalformed}
 use Rattle.callsigns.specs.Callsign.{callsign, sameCall}
 use Rattle.names.specs.Texts.{streamId}
@@ -22,6 +22,14 @@ streamIdOf k = take (k .«stream_id_len») (k .«stream_id»)
 unfoldable pub sameKey : Key → Key → Bool
 sameKey j k = sameCall (originatorOf j) (originatorOf k) and same (streamIdOf j) (streamIdOf k)
 
+-- a number for a stream id, by which the code tells unlike keys apart: the sum of its bytes, then its last byte
+abbrev pub sumOf : List ℕ → ℕ
+sumOf [] = 0
+sumOf (x ∷ s) = x + sumOf s
+
+unfoldable pub markOf : List ℕ → ℕ
+markOf id = sumOf id * 256 + getD id (length id - 1) 0
+
 -- the key of two names, each in the front of its array with zeros behind it
 unfoldable pub keyOf : List ℕ → List ℕ → Key
 keyOf originator id =
@@ -36,21 +44,17 @@ keyOf originator id =
 abbrev pub noKey : Key
 noKey = record { originator = replicate 12 0; «originator_len» = 0; «stream_id» = replicate 255 0; «stream_id_len» = 0 }
 
--- every byte is zero
-abbrev pub zeros : List ℕ → Bool
-zeros = every (λ x. x =? 0)
-
 unfoldable pub isNoKey : Key → Bool
 isNoKey k =
     (length (k .originator) =? 12 and length (k .«stream_id») =? 255)
     and k .«originator_len» =? 0
     and k .«stream_id_len» =? 0
-    and zeros (k .originator)
-    and zeros (k .«stream_id»)
+    and allZero (k .originator)
+    and allZero (k .«stream_id»)
 
 -- an array of `size` bytes has a valid name in its first `len`, and zeros behind it
 abbrev pub holdsName : ℕ → (List ℕ → Bool) → ℕ → List ℕ → Bool
-holdsName size valid len array = length array =? size and len ≤? size and valid (take len array) and zeros (drop len array)
+holdsName size valid len array = length array =? size and len ≤? size and valid (take len array) and allZero (drop len array)
 
 -- the state rules of a key (40): the originator is a callsign, the stream id is one, and the bytes past each are zero
 unfoldable pub keepsKey : Key → Bool

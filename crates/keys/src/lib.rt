@@ -1,8 +1,6 @@
 // Document 01, "Streams": a row's key, originator and stream id. Whoever keeps rows by key compares keys by `same` and never looks inside.
 ghost use mathlib.Core.Path.{_≡_};
-ghost use Rattle.keys.specs.Key.{noKey, sameKey, namedOf, keepsKey, isNoKey};
-
-mod parts;
+ghost use Rattle.keys.specs.Key.{noKey, sameKey, namedOf, keepsKey, isNoKey, streamIdOf, markOf};
 
 // The names stand in the front of the arrays; the bytes past them are zero.
 pub struct Key {
@@ -48,7 +46,16 @@ pub fn name(originator: &[u8], stream_id: &[u8]) -> Named
             key: key,
         };
     }
-    let key = parts::key_of(originator, stream_id);
+    let mut a = [0u8; 12];
+    octets::copy_at(originator, &mut a, 0);
+    let mut b = [0u8; 255];
+    octets::copy_at(stream_id, &mut b, 0);
+    let key = Key {
+        originator: a,
+        originator_len: originator.len(),
+        stream_id: b,
+        stream_id_len: stream_id.len(),
+    };
     Named {
         refusal: 0,
         key: key,
@@ -61,12 +68,36 @@ pub fn same(a: Key, b: Key) -> bool
 {
     let n = a.originator_len;
     let m = b.originator_len;
-    if !callsigns::same_call(parts::part(&a.originator, n), parts::part(&b.originator, m)) {
+    if !callsigns::same_call(
+        lengths::part(&a.originator, n),
+        lengths::part(&b.originator, m),
+    ) {
         return false;
     }
     let k = a.stream_id_len;
     let l = b.stream_id_len;
-    octets::equal(parts::part(&a.stream_id, k), parts::part(&b.stream_id, l))
+    octets::equal(
+        lengths::part(&a.stream_id, k),
+        lengths::part(&b.stream_id, l),
+    )
+}
+
+// A number for a key, by which unlike keys are told apart at once: equal keys have equal marks. It is that of the stream id alone.
+pub fn mark(k: Key) -> u32
+    ensures { λ r. ⌜ r ≡ markOf (streamIdOf k) ⌝ }
+{
+    let n = k.stream_id_len;
+    let id = lengths::part(&k.stream_id, n);
+    if id.len() == 0 {
+        return 0;
+    }
+    let mut sum: u32 = 0;
+    let mut i: usize = 0;
+    while i < id.len() {
+        sum += id[i] as u32;
+        i += 1;
+    }
+    sum * 256 + id[id.len() - 1] as u32
 }
 
 // Whether a key keeps its rules (40).
@@ -74,11 +105,23 @@ pub fn keeps_rules(k: Key) -> bool
     ensures { λ r. ⌜ r ≡ keepsKey k ⌝ }
 {
     let n = k.originator_len;
-    if !parts::call_in(&k.originator, n) {
+    if n > 12 {
+        return false;
+    }
+    if !callsigns::is_callsign(lengths::part(&k.originator, n)) {
+        return false;
+    }
+    if !lengths::zero_from(&k.originator, n) {
         return false;
     }
     let m = k.stream_id_len;
-    parts::id_in(&k.stream_id, m)
+    if m > 255 {
+        return false;
+    }
+    if !names::is_stream_id(lengths::part(&k.stream_id, m)) {
+        return false;
+    }
+    lengths::zero_from(&k.stream_id, m)
 }
 
 // Whether all of a key is zero.
@@ -91,8 +134,8 @@ pub fn is_none(k: Key) -> bool
     if k.stream_id_len != 0 {
         return false;
     }
-    if !parts::zero_from(&k.originator, 0) {
+    if !lengths::zero_from(&k.originator, 0) {
         return false;
     }
-    parts::zero_from(&k.stream_id, 0)
+    lengths::zero_from(&k.stream_id, 0)
 }

@@ -13,7 +13,7 @@ use Rattle.octets.proofs.Tests.{and-not-left}
 use Rattle.octets.proofs.Lists.{drop-next}
 
 -- two numbers gathered are 0 if both are
-or-zero : (a b : ℕ) → (bitOr a b =? 0) ≡ (a =? 0) and (b =? 0)
+pub or-zero : (a b : ℕ) → (bitOr a b =? 0) ≡ (a =? 0) and (b =? 0)
 or-zero zero b = ap (λ x. x =? 0) (or-zero-l b)
 or-zero (suc a) b =
     ne-eqb (bitOr (suc a) b) 0 (λ e. absurd (omega (arith, or-add-and (suc a) b, and-le-r (suc a) b, e)))

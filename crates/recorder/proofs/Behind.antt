@@ -10,10 +10,10 @@ use Rattle.octets.specs.Numbers.{littleBytes}
 use Rattle.octets.specs.Field.{manyPrint}
 use Rattle.octets.proofs.Lists.{length-placed, placed-in, placed-none}
 use Rattle.octets.proofs.NumberLaws.{length-bytes}
-use Rattle.rows.specs.declared.Held.{Held}
+use Rattle.places.specs.declared.Held.{Held}
 use Rattle.rows.specs.declared.Row.{Row}
 use Rattle.rows.specs.Row.{blank, heldIn}
-use Rattle.rows.proofs.Packing.{rest-at, rest-end}
+use Rattle.places.proofs.Packing.{rest-at, rest-end}
 use Rattle.keys.specs.declared.Key.{Key}
 use Rattle.keys.specs.Key.{originatorOf, streamIdOf}
 use Rattle.records.specs.Record.{text, key, message, messages, row, body}

@@ -7,30 +7,8 @@ ghost use Rattle.octets.specs.Field.{manyPrint};
 ghost use Rattle.rows.specs.Row.{heldIn};
 ghost use Rattle.records.specs.Record.{text, key, message, row};
 use keys::Key;
-use rows::Held;
+use places::Held;
 use rows::Row;
-
-// The first n bytes, or all where there are fewer.
-fn part(a: &[u8], n: usize) -> &[u8]
-    ensures { λ r. ⌜ now r ≡ take n (now (a .entry)) ⌝ }
-{
-    if a.len() < n {
-        return a;
-    }
-    &a[0..n]
-}
-
-fn wide(x: u32) -> u64
-    ensures { λ r. ⌜ r ≡ x ⌝ }
-{
-    x as u64
-}
-
-fn wide_size(x: usize) -> u64
-    ensures { λ r. ⌜ r ≡ x ⌝ }
-{
-    x as u64
-}
 
 // How many messages a row holds in its sixteen places.
 fn held_count(r: Row) -> usize
@@ -47,8 +25,8 @@ pub(crate) fn key_size(k: Key) -> usize
 {
     let n = k.originator_len;
     let m = k.stream_id_len;
-    let a = part(&k.originator, n).len();
-    let b = part(&k.stream_id, m).len();
+    let a = lengths::part(&k.originator, n).len();
+    let b = lengths::part(&k.stream_id, m).len();
     2 + a + b
 }
 
@@ -62,7 +40,7 @@ fn put_text(s: &[u8], out: &mut [u8], at: usize)
     requires { ⌜ at + (1 + length (now s)) ≤ length (now out) ⌝ }
     ensures { λ _. ⌜ now (out .exit) ≡ placed (text .print (now (s .entry))) at (now (out .entry)) ⌝ }
 {
-    octets::put_number(wide_size(s.len()), 1, out, at);
+    octets::put_number(lengths::wide_size(s.len()), 1, out, at);
     octets::copy_at(s, out, at + 1);
 }
 
@@ -74,18 +52,18 @@ pub(crate) fn put_key(k: Key, out: &mut [u8], at: usize)
     let m = k.stream_id_len;
     let a = k.originator;
     let b = k.stream_id;
-    let next = 1 + part(&a, n).len();
-    put_text(part(&a, n), out, at);
-    put_text(part(&b, m), out, at + next);
+    let next = 1 + lengths::part(&a, n).len();
+    put_text(lengths::part(&a, n), out, at);
+    put_text(lengths::part(&b, m), out, at + next);
 }
 
 fn put_message(m: Held, out: &mut [u8], at: usize)
     requires { ⌜ at + 12 ≤ length (now out) ⌝ }
     ensures { λ _. ⌜ now (out .exit) ≡ placed (message .print m) at (now (out .entry)) ⌝ }
 {
-    octets::put_number(wide(m.number), 4, out, at);
-    octets::put_number(wide(m.timeout), 4, out, at + 4);
-    octets::put_number(wide(m.slip), 4, out, at + 8);
+    octets::put_number(lengths::wide32(m.number), 4, out, at);
+    octets::put_number(lengths::wide32(m.timeout), 4, out, at + 4);
+    octets::put_number(lengths::wide32(m.slip), 4, out, at + 8);
 }
 
 // The first k messages of the sixteen places.
@@ -108,8 +86,8 @@ pub(crate) fn put_row(r: Row, out: &mut [u8], at: usize)
     let held = r.held;
     let count = held_count(r);
     octets::put_number(r.expected, 8, out, at);
-    octets::put_number(wide(r.clock), 4, out, at + 8);
-    octets::put_number(wide(r.gap_start), 4, out, at + 12);
-    octets::put_number(wide_size(count), 1, out, at + 16);
+    octets::put_number(lengths::wide32(r.clock), 4, out, at + 8);
+    octets::put_number(lengths::wide32(r.gap_start), 4, out, at + 12);
+    octets::put_number(lengths::wide_size(count), 1, out, at + 16);
     put_messages(held, count, out, at + 17);
 }

@@ -21,11 +21,11 @@ use Rattle.keys.specs.declared.Key.{Key}
 use Rattle.keys.specs.declared.Named.{Named}
 use Rattle.keys.specs.Key.{keyOf, namedOf, noKey}
 use Rattle.refusals.specs.Numbers.{noCallsign, streamIdMalformed}
-use Rattle.rows.specs.declared.Held.{Held}
+use Rattle.places.specs.declared.Held.{Held}
 use Rattle.rows.specs.declared.Row.{Row}
 use Rattle.rows.specs.Stream.{Stream, keeps}
 use Rattle.rows.specs.Row.{blank, isBlank, places, rowOf, keepsRow}
-use Rattle.rows.proofs.Packing.{length-places, all-blank}
+use Rattle.places.proofs.Packing.{length-places, all-blank}
 use Rattle.rows.proofs.Rules.{unpacks}
 use Rattle.records.specs.declared.parts.Text.{Text}
 use Rattle.records.specs.declared.parts.Message.{Message}

@@ -21,7 +21,7 @@ use Rattle.names.proofs.Lengths.{streamId-short}
 use Rattle.keys.specs.declared.Key.{Key}
 use Rattle.keys.specs.Key.{originatorOf, streamIdOf, keyOf, holdsName, keepsKey}
 use Rattle.keys.proofs.Names.{zeros-are, originator-back, id-back, key-keeps, key-names}
-use Rattle.rows.specs.declared.Held.{Held}
+use Rattle.places.specs.declared.Held.{Held}
 use Rattle.rows.specs.declared.Row.{Row}
 use Rattle.rows.specs.Stream.{Stream, words, keeps}
 use Rattle.rows.specs.Row.{streamOf, rowOf, keepsRow}

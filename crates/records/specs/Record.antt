@@ -9,7 +9,7 @@ use Rattle.callsigns.specs.Callsign.{callsign}
 use Rattle.names.specs.Texts.{streamId}
 use Rattle.keys.specs.declared.Key.{Key}
 use Rattle.keys.specs.Key.{originatorOf, streamIdOf, keyOf, keepsKey, noKey}
-use Rattle.rows.specs.declared.Held.{Held}
+use Rattle.places.specs.declared.Held.{Held}
 use Rattle.rows.specs.declared.Row.{Row}
 use Rattle.rows.specs.Stream.{Stream, keeps}
 use Rattle.rows.specs.Row.{streamOf, rowOf, keepsRow, noRow}

@@ -7,7 +7,7 @@ use lib.ListN.{length, take, drop, replicate}
 use Rattle.octets.specs.Field.{Res, bad, got, num}
 use Rattle.keys.specs.declared.Key.{Key}
 use Rattle.keys.specs.Key.{noKey}
-use Rattle.rows.specs.declared.Held.{Held}
+use Rattle.places.specs.declared.Held.{Held}
 use Rattle.rows.specs.declared.Row.{Row}
 use Rattle.rows.specs.Row.{blank, places, noRow}
 use Rattle.records.specs.Record.{text, message, row}

@@ -9,7 +9,7 @@ use keys::Key;
 use octets::Read8;
 use octets::Read32;
 use octets::Read64;
-use rows::Held;
+use places::Held;
 use rows::Row;
 
 // How many bytes a text has, which stand behind its length.

@@ -6,7 +6,7 @@ use mathlib.Core.List.{List, [], _∷_}
 use borrow.Author.Tests.{ltb-false}
 use Rattle.octets.specs.Words.{if_then_else_, _<?_}
 use Rattle.refusals.specs.Numbers.{stale, alreadyHeld, rowFull}
-use Rattle.rows.specs.declared.Held.{Held}
+use Rattle.places.specs.declared.Held.{Held}
 use Rattle.rows.specs.Answer.{Outcome, refuse}
 use Rattle.rows.specs.Stream.{Stream, holds, offer, accept, due, take, takeFrom, force, forceFrom, give, stay}
 use Rattle.rows.specs.Steps.{full}

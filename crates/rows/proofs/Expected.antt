@@ -8,13 +8,13 @@ use lib.ListN.{length}
 use borrow.Author.Tests.{le-ltb}
 use Rattle.octets.specs.Words.{_<?_}
 use Rattle.octets.proofs.Tests.{and-not-left}
-use Rattle.rows.specs.declared.Held.{Held}
+use Rattle.places.specs.declared.Held.{Held}
 use Rattle.rows.specs.declared.Row.{Row}
 use Rattle.rows.specs.Answer.{accepted}
 use Rattle.rows.specs.Stream.{Stream, holds, insert, keeps, offer}
 use Rattle.rows.specs.Row.{streamOf, heldIn, keepsRow, offerOf}
 use Rattle.rows.specs.Steps.{full}
-use Rattle.rows.proofs.Packing.{length-insert}
+use Rattle.places.proofs.Packing.{length-insert}
 use Rattle.rows.proofs.Rules.{kept, room}
 
 module _ (s : Stream) (m : Held) (time : ℕ) (x : m .number ≡ s .expected) (d : holds (m .number) (s .held) ≡ false) where

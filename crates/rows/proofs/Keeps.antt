@@ -8,7 +8,7 @@ use lib.ListN.{length}
 use borrow.Author.Tests.{le-leb, leb-false, ltb-true, ltb-false, eqb-false}
 use Rattle.octets.specs.Words.{if_then_else_, _and_, _or_, every, _<?_, _≤?_, _=?_}
 use Rattle.octets.proofs.Tests.{and-left, and-right, and-both, and-next, true-not-false}
-use Rattle.rows.specs.declared.Held.{Held}
+use Rattle.places.specs.declared.Held.{Held}
 use Rattle.rows.specs.declared.Row.{Row}
 use Rattle.rows.specs.Answer.{Outcome}
 use Rattle.rows.specs.Stream.{Stream, fresh, word, words, ascending, above, holds, insert, gapOpen, keeps, accept, offer, stay, give, take, force}

@@ -1,5 +1,4 @@
 -- Laws of one row, and its theorems.
-pub mod Packing
 pub mod Words
 pub mod Rules
 pub mod Steps

@@ -7,13 +7,14 @@ use mathlib.Core.List.{List, [], _∷_}
 use lib.ListN.{length, drop, replicate}
 use lib.Seq.{take-append-seam, drop-append-seam}
 use borrow.Author.Tests.{eq-eqb, le-leb, leb-true, leb-false, lt-ltb, ltb-true, ltb-false, eqb-true, eqb-false}
-use Rattle.octets.specs.Words.{_and_, _or_, every, between, _<?_, _≤?_, _=?_}
+use Rattle.octets.specs.Words.{if_then_else_, _and_, _or_, every, between, _<?_, _≤?_, _=?_}
 use Rattle.octets.proofs.Tests.{and-left, and-right, and-both, and-next, inside, inside-low, inside-high, true-not-false}
-use Rattle.rows.specs.declared.Held.{Held}
+use Rattle.places.specs.declared.Held.{Held}
 use Rattle.rows.specs.declared.Row.{Row}
 use Rattle.rows.specs.Stream.{Stream, word, words, ascending, above, holds, gapOpen, ordered, timed, keeps}
 use Rattle.rows.specs.Row.{blank, isBlank, streamOf, places, rowOf, keepsRow, noRow, isNoRow}
-use Rattle.rows.proofs.Packing.{Placed, counted, placed, blanks, all-blank, length-places}
+use Rattle.rows.specs.Steps.{aboveBy}
+use Rattle.places.proofs.Packing.{Placed, counted, placed, blanks, all-blank, length-places}
 
 -- ---- a stream that keeps the rules
 
@@ -112,6 +113,18 @@ above-all e lo (x ∷ t) a h =
     let b : lo ≤ x .number = leb-true lo (x .number) (and-left (lo ≤? x .number) _ a) in
     let k : above e t ≡ length t = above-all e (x .number + 1) t (and-right (lo ≤? x .number) _ a) (omega arith) in
     rw (lt-ltb e (x .number) (omega arith)) (omega arith)
+
+-- how many stand above expected, from the count and the gap
+pub above-count : (e : ℕ) (l : List Held) → ascending e l ≡ true → aboveBy (gapOpen e l) (length l) ≡ above e l
+above-count e [] a = refl
+above-count e (x ∷ t) a =
+    let b : e ≤ x .number = leb-true e (x .number) (and-left (e ≤? x .number) _ a) in
+    let k : above e t ≡ length t = above-all e (x .number + 1) t (and-right (e ≤? x .number) _ a) (omega arith) in
+    go (e <? x .number) k
+  where
+    go : (b : Bool) → above e t ≡ length t → (if b then suc (length t) else (suc (length t) - 1)) ≡ (if b then 1 else 0) + above e t
+    go true k = omega arith
+    go false k = omega arith
 
 room-above : (e : ℕ) (l : List Held) → ascending e l ≡ true → length l ≤ above e l + 1
 room-above e [] a = omega arith

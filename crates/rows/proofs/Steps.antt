@@ -1,19 +1,21 @@
 -- What the code makes of a row that keeps its rules is what document 01 says of the stream, packed. Over plain values.
-use mathlib.Core.Path.{_≡_, sym, ap, _∙_}
-use Prim.Native.Nat.{ℕ, _+_, _-_, _<_}
+use mathlib.Core.Path.{_≡_, refl, sym, ap, _∙_}
+use Prim.Native.Nat.{ℕ, zero, suc, _+_, _-_, _<_, _≤_}
 use native.Mathlib.Omega.{arith}
 use mathlib.Core.Bool.{Bool, true, false}
 use mathlib.Core.List.{List, [], _∷_, _++_}
 use lib.ListN.{length, getD, take, drop}
+use lib.Seq.{length-take-le}
 use Rattle.octets.specs.Words.{if_then_else_}
-use Rattle.rows.specs.declared.Held.{Held}
+use Rattle.octets.proofs.Tests.{true-not-false}
+use Rattle.places.specs.declared.Held.{Held}
 use Rattle.rows.specs.declared.Row.{Row}
 use Rattle.rows.specs.Answer.{Answer, given, nothing, accepted, refused, Outcome, refuse}
-use Rattle.rows.specs.Stream.{gapOpen, insert, accept, stay, give, due, takeFrom, forceFrom}
+use Rattle.rows.specs.Stream.{Stream, ascending, above, gapOpen, insert, accept, stay, give, due, takeFrom, forceFrom}
 use Rattle.rows.specs.Row.{blank, heldIn, streamOf, places, keepsRow, packed}
-use Rattle.rows.specs.Steps.{placeOf, startAfter}
-use Rattle.rows.proofs.Packing.{Placed, counted, placed, lowest-of, rest-taken, rest-placed, rest-counted, more-placed, more-taken, length-insert}
-use Rattle.rows.proofs.Rules.{placed-in, row-is, packs}
+use Rattle.rows.specs.Steps.{placeOf, aboveBy, startAfter, dueFrom}
+use Rattle.places.proofs.Packing.{Placed, counted, placed, lowest-of, rest-taken, rest-placed, rest-counted, more-placed, more-taken, length-insert}
+use Rattle.rows.proofs.Rules.{placed-in, row-is, packs, above-count}
 
 -- an outcome from its parts
 pub with-row : (a : Answer) (r q : Row) → r ≡ q → _≡_ {A = Outcome Row} (record { answer = a; after = r }) (record { answer = a; after = q })
@@ -93,9 +95,28 @@ module _ (r : Row) (k : keepsRow r ≡ true) where
         ∙ row-is (give h t clock .after) (r .count - 1) rest (rest-counted _ _ z w) (p ∙ rest-placed _ _ z w))
         ∙ ap (λ (l : List Held). packed (forceFrom (streamOf r) clock l)) (sym first-held)
 
-    -- what a take does is decided by the lowest
-    pub take-is : (clock : ℕ) → takeFrom (streamOf r) clock (heldIn r) ≡ (if due (streamOf r) (getD (r .held) 0 blank) clock then forceFrom (streamOf r) clock (heldIn r) else stay (streamOf r) clock)
-    take-is clock = rw first-held
+    -- whether the lowest is due
+    pub due-is : (clock : ℕ) → due (streamOf r) (getD (r .held) 0 blank) clock ≡ dueFrom (streamOf r) clock (heldIn r)
+    due-is clock = rw first-held
 
-pub none-held : (r : Row) (clock : ℕ) → r .count ≡ 0 → (takeFrom (streamOf r) clock (heldIn r) ≡ stay (streamOf r) clock) × (forceFrom (streamOf r) clock (heldIn r) ≡ stay (streamOf r) clock)
-none-held r clock z = let e : heldIn r ≡ [] = ap (λ (n : ℕ). take n (r .held)) z in (rw e, rw e)
+-- what a take does is decided by the lowest
+pub take-is : (s : Stream) (clock : ℕ) (l : List Held) → takeFrom s clock l ≡ (if dueFrom s clock l then forceFrom s clock l else stay s clock)
+take-is s clock [] = refl
+take-is s clock (m ∷ l) = refl
+
+-- where something is due, something is held
+pub due-some : (r : Row) (clock : ℕ) → dueFrom (streamOf r) clock (heldIn r) ≡ true → 0 < r .count
+due-some r clock e = go (r .count) refl
+  where
+    go : (n : ℕ) → r .count ≡ n → 0 < r .count
+    go zero q = true-not-false (dueFrom (streamOf r) clock (heldIn r)) e (ap (λ (k : ℕ). dueFrom (streamOf r) clock (take k (r .held))) q)
+    go (suc n) q = omega arith
+
+pub none-held : (r : Row) → r .count ≡ 0 → heldIn r ≡ []
+none-held r z = ap (λ (n : ℕ). take n (r .held)) z
+
+-- how many stand above expected
+pub above-is : (k : ℕ) (gap : Bool) (r : Row) → length (r .held) ≡ 16 → r .count ≤ 16 → ascending (r .expected) (heldIn r) ≡ true → gap ≡ gapOpen (r .expected) (heldIn r)
+    → k ≡ aboveBy gap (r .count) → k ≡ above (r .expected) (heldIn r)
+above-is k gap r l m a g e =
+    e ∙ ap (λ (b : Bool). aboveBy b (r .count)) g ∙ ap (aboveBy (gapOpen (r .expected) (heldIn r))) (sym (length-take-le (r .count) (r .held) (omega arith))) ∙ above-count (r .expected) (heldIn r) a

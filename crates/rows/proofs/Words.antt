@@ -1,34 +1,18 @@
 -- A row that the code is handed has numbers of 32 bits in its places: what its type says, as the logic has it.
-use mathlib.Core.Path.{_≡_, refl}
-use Prim.Native.Nat.{ℕ, zero, suc, _<_}
+use mathlib.Core.Path.{_≡_}
+use Prim.Native.Nat.{_<_}
 use mathlib.Core.Bool.{true}
-use mathlib.Core.List.{List, [], _∷_, map}
-use lib.ListN.{take}
+use mathlib.Core.List.{List, map}
 use mir.Val.{Val}
 use denote.Shadow.{shadow}
-use denote.Array.{each}
 use denote.Struct.Field.{array-field}
 use borrow.Author.Tests.{lt-ltb}
-use Rattle.octets.specs.Words.{every}
-use Rattle.octets.proofs.Tests.{and-left, and-right, and-both}
-use Rattle.rows.specs.declared.Held.{Held}
+use Rattle.octets.proofs.Tests.{and-both}
+use Rattle.places.proofs.Held as held
+use Rattle.places.proofs.Words.{each-words, every-front}
 use Rattle.rows.specs.declared.Row.{Row}
-use Rattle.rows.specs.Stream.{words, small}
+use Rattle.rows.specs.Stream.{small}
 use Rattle.rows.specs.Row.{streamOf}
-use Rattle.rows.proofs.Held as held
-
-each-words : (l : List Held) (us : List Val) → shadow (each (held.the-field .row .Denot) (held.the-field .row .own) (map (held.the-type .to) l) us) → every words l ≡ true
-each-words [] us p = refl
-each-words (m ∷ l) [] p = absurd p
-each-words (m ∷ l) (u ∷ us) p =
-    let f = p .0 .1 .1 in
-    let w : words m ≡ true = and-both _ _ (lt-ltb (m .number) 4294967296 (f .0 .1)) (and-both _ _ (lt-ltb (m .timeout) 4294967296 (f .1 .0 .1)) (lt-ltb (m .slip) 4294967296 (f .1 .1 .0 .1))) in
-    and-both (words m) (every words l) w (each-words l us (p .1))
-
-every-front : (n : ℕ) (l : List Held) → every words l ≡ true → every words (take n l) ≡ true
-every-front zero l e = refl
-every-front (suc n) [] e = refl
-every-front (suc n) (m ∷ l) e = and-both (words m) _ (and-left (words m) _ e) (every-front n l (and-right (words m) _ e))
 
 pub small-row : (r : Row) (vs : List Val) → r .clock < 4294967296 → shadow ((array-field held.the-field 16) .row .own (map (held.the-type .to) (r .held)) vs) → small (streamOf r) ≡ true
 small-row r vs c p = and-both _ _ (lt-ltb _ _ c) (every-front (r .count) (r .held) (each-words (r .held) (p .0) (p .1 .1)))

@@ -1,22 +1,16 @@
 -- A row as the code has it: the held messages stand in sixteen places, the first `count` of them, and the places past the count are all zero.
-use Prim.Native.Nat.{ℕ, _-_}
+use Prim.Native.Nat.{ℕ}
 use mathlib.Core.Bool.{Bool}
-use mathlib.Core.List.{List, _++_}
+use mathlib.Core.List.{List}
 use lib.ListN.{length, drop, replicate}
 use lib.ListN as list
 use Rattle.octets.specs.Words.{if_then_else_, _and_, every, _≤?_, _=?_}
 use Rattle.refusals.specs.Numbers.{stateBroken}
-use Rattle.rows.specs.declared.Held.{Held}
+use Rattle.places.specs.declared.Held.{Held}
+pub use Rattle.places.specs.Places.{blank, isBlank, places}
 use Rattle.rows.specs.declared.Row.{Row}
 use Rattle.rows.specs.Answer.{Outcome, refuse}
 use Rattle.rows.specs.Stream.{Stream, keeps, offer, take, force}
-
--- an empty place
-abbrev pub blank : Held
-blank = record { number = 0; timeout = 0; slip = 0 }
-
-abbrev pub isBlank : Held → Bool
-isBlank m = m .number =? 0 and m .timeout =? 0 and m .slip =? 0
 
 -- the messages that a row holds
 abbrev pub heldIn : Row → List Held
@@ -25,10 +19,6 @@ heldIn r = list.take (r .count) (r .held)
 -- the row that the struct stands for
 abbrev pub streamOf : Row → Stream
 streamOf r = record { expected = r .expected; clock = r .clock; gapStart = r .«gap_start»; held = heldIn r }
-
--- the sixteen places of a list: its messages, then empty places
-abbrev pub places : List Held → List Held
-places l = l ++ replicate (16 - length l) blank
 
 -- the struct that stands for a row
 abbrev pub rowOf : Stream → Row

@@ -6,14 +6,8 @@ ghost use Rattle.rows.specs.Stream.{fresh};
 ghost use Rattle.rows.specs.Row.{rowOf, noRow, keepsRow, isNoRow, offerOf, takeOf, forceOf};
 
 mod calls;
-mod places;
 
-// A message that waits: its number, how long a gap before it may stand open (0: for ever), and the slip under which the host keeps it.
-pub struct Held {
-    pub number: u32,
-    pub timeout: u32,
-    pub slip: u32,
-}
+use places::Held;
 
 // The held messages are the first `count` of the sixteen, in ascending number; the places past them are all zero.
 pub struct Row {
@@ -51,23 +45,21 @@ impl Row {
     pub fn new() -> Row
         ensures { λ r. ⌜ r ≡ rowOf fresh ⌝ }
     {
-        let b = places::blank();
-        let held = [b; 16];
-        Row {
-            expected: 1,
-            clock: 0,
-            gap_start: 0,
-            count: 0,
-            held: held,
-        }
+        let mut r = Row::none();
+        r.expected = 1;
+        r
     }
 
     // No stream's row: all zero.
     pub fn none() -> Row
         ensures { λ r. ⌜ r ≡ noRow ⌝ }
     {
-        let b = places::blank();
-        let held = [b; 16];
+        let blank = Held {
+            number: 0,
+            timeout: 0,
+            slip: 0,
+        };
+        let held = [blank; 16];
         Row {
             expected: 0,
             clock: 0,
@@ -103,13 +95,23 @@ impl Row {
     {
         let held = self.held;
         let count = self.count;
+        let expected = self.expected;
         if count > 16 {
             return false;
         }
         if !places::blank_from(held, count) {
             return false;
         }
-        calls::keeps(self)
+        if !calls::in_order(self) {
+            return false;
+        }
+        if self.gap_start > self.clock {
+            return false;
+        }
+        if places::gap_open(held, count, expected) {
+            return true;
+        }
+        self.gap_start == 0
     }
 
     // Offers a message: its number, timeout and slip, at a time.
@@ -119,16 +121,27 @@ impl Row {
         if !self.keeps_rules() {
             return calls::refused(refusals::STATE_BROKEN, self);
         }
+        let wide = lengths::wide32(number);
+        if wide < self.expected {
+            return calls::refused(refusals::STALE, self);
+        }
+        let held = self.held;
+        if places::has(held, self.count, number) {
+            return calls::refused(refusals::ALREADY_HELD, self);
+        }
+        if calls::is_full(self, wide) {
+            return calls::refused(refusals::ROW_FULL, self);
+        }
         let m = Held {
             number: number,
             timeout: timeout,
             slip: slip,
         };
-        calls::offer(self, m, time)
+        calls::accept(self, m, places::later(self.clock, time))
     }
 
-    // Takes the lowest held message if it is due.
-    pub fn take(self, time: u32) -> Taken
+    // Takes the lowest held message if it is due; otherwise only the clock goes on.
+    pub fn take(mut self, time: u32) -> Taken
         ensures { λ r. ⌜ takenSays r ≡ takeOf self time ⌝ }
     {
         if !self.keeps_rules() {
@@ -137,11 +150,19 @@ impl Row {
                 row: self,
             };
         }
-        calls::take(self, time)
+        let clock = places::later(self.clock, time);
+        if calls::is_due(self, clock) {
+            return calls::give(self, clock);
+        }
+        self.clock = clock;
+        Taken {
+            answer: Giving::Nothing,
+            row: self,
+        }
     }
 
     // Takes the lowest held message, whatever the gap.
-    pub fn force(self, time: u32) -> Taken
+    pub fn force(mut self, time: u32) -> Taken
         ensures { λ r. ⌜ takenSays r ≡ forceOf self time ⌝ }
     {
         if !self.keeps_rules() {
@@ -150,6 +171,14 @@ impl Row {
                 row: self,
             };
         }
-        calls::force(self, time)
+        let now = places::later(self.clock, time);
+        if self.count > 0 {
+            return calls::give(self, now);
+        }
+        self.clock = now;
+        Taken {
+            answer: Giving::Nothing,
+            row: self,
+        }
     }
 }

@@ -12,7 +12,7 @@ use Rattle.keys.specs.declared.Key.{Key}
 use Rattle.keys.specs.Key.{keyOf, namedOf}
 use Rattle.callsigns.specs.Callsign.{callsign}
 use Rattle.names.specs.Texts.{streamId}
-use Rattle.rows.specs.declared.Held.{Held}
+use Rattle.places.specs.declared.Held.{Held}
 use Rattle.rows.specs.declared.Row.{Row}
 use Rattle.rows.specs.Answer.{accepted, Outcome, refuse}
 use Rattle.rows.specs.Stream.{holds}

@@ -11,12 +11,12 @@ use Rattle.keys.specs.declared.Key.{Key}
 use Rattle.keys.specs.Key.{keepsKey, isNoKey}
 use Rattle.keys.proofs.Names.{no-key}
 use Rattle.rows.proofs.Rules.{no-row}
-use Rattle.rows.specs.declared.Held.{Held}
+use Rattle.places.specs.declared.Held.{Held}
 use Rattle.rows.specs.declared.Row.{Row}
 use Rattle.rows.specs.Answer.{Outcome}
 use Rattle.rows.specs.Stream.{word, words}
 use Rattle.rows.specs.Row.{keepsRow, isNoRow}
-use Rattle.streams.specs.declared.Slot.{Slot}
+use Rattle.slots.specs.declared.Slot.{Slot}
 use Rattle.streams.specs.declared.Table.{Table}
 use Rattle.streams.specs.Table.{freeSlot, keepsSlot, distinct, keepsTable, slotAt, withSlot, pastSlot, empty}
 use Rattle.streams.specs.Calls.{offer, take, force, close}

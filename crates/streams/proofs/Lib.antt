@@ -1,5 +1,6 @@
 -- Laws of the table, and its theorems.
 pub mod Search
+pub mod Marks
 pub mod Lookups
 pub mod Places
 pub mod Moves

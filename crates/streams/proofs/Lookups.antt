@@ -5,22 +5,24 @@ use native.Mathlib.Omega.{arith}
 use mathlib.Core.Bool.{Bool, true, false}
 use mathlib.Core.List.{List}
 use lib.ListN.{length}
-use borrow.Author.Tests.{eq-eqb, eqb-true, ltb-false, ltb-true}
+use borrow.Author.Tests.{eq-eqb, ne-eqb, eqb-true, ltb-false, ltb-true}
 use Rattle.octets.specs.Words.{if_then_else_, no, every, _<?_, _=?_}
-use Rattle.octets.proofs.Tests.{if-yes, and-left, and-right}
-use Rattle.refusals.specs.Numbers.{stateBroken, noFreeRow}
+use Rattle.octets.proofs.Tests.{if-yes, if-no, and-left, and-right}
+use Rattle.refusals.specs.Numbers.{stateBroken, noFreeRow, stillHolding}
 use Rattle.keys.specs.declared.Key.{Key}
 use Rattle.keys.specs.declared.Named.{Named}
 use Rattle.keys.specs.Key.{namedOf}
 use Rattle.rows.specs.declared.Row.{Row}
 use Rattle.rows.specs.Answer.{Answer, accepted, Outcome, refuse}
-use Rattle.rows.specs.declared.Held.{Held}
-use Rattle.streams.specs.declared.Slot.{Slot}
+use Rattle.places.specs.declared.Held.{Held}
+use Rattle.slots.specs.declared.Slot.{Slot}
 use Rattle.streams.specs.declared.Table.{Table}
 use Rattle.streams.specs.declared.Found.{Found}
 use Rattle.streams.specs.declared.Lookup.{Lookup}
+use Rattle.streams.specs.declared.rules.Ruled.{Ruled}
 use Rattle.streams.specs.Table.{keepsSlot, hasKey, distinct, keepsTable, first, slotAt, withSlot, freeSlot}
 use Rattle.streams.specs.Calls.{place, lookUp, onRow, opened, offerBy, offer, takeBy, take, forceBy, force, closeBy, close}
+use Rattle.streams.specs.Steps.{foundOr, Tested, standingOf}
 use Rattle.streams.proofs.Search.{first-bound}
 
 -- a table that keeps the rules
@@ -64,24 +66,37 @@ module _ (t : Table) (named : Named) where
       found k Found.Nothing q e = let z : _≡_ {A = ℕ} 0 1 = cc in absurd (omega arith)
 
 -- ---- an answer from its parts: what the row's call said, and the table with the row after it
-pub on-row : (t : Table) (i : ℕ) (a : Answer) (r : Row) (o : Outcome Row) (u : Table) → _≡_ {A = Outcome Row} (record { answer = a; after = r }) o
-    → u ≡ withSlot t i (record { used = slotAt t i .used; key = slotAt t i .key; row = r }) → _≡_ {A = Outcome Table} (record { answer = a; after = u }) (onRow t i o)
-on-row t i a r o u e q = ap {B = Outcome Table} (λ (v : Table). record { answer = a; after = v }) q ∙ ap (onRow t i) e
+pub on-row : (t : Table) (i : ℕ) (a : Answer) (r : Row) (o : Outcome Row) → _≡_ {A = Outcome Row} (record { answer = a; after = r }) o
+    → _≡_ {A = Outcome Table} (record { answer = a; after = withSlot t i (record { used = slotAt t i .used; key = slotAt t i .key; row = r }) }) (onRow t i o)
+on-row t i a r o e = ap (onRow t i) e
 
 -- a row is opened at a free slot, or there is none
 module _ (t : Table) (k : Key) (o : Outcome Row) (f : Found) where
   pub opened-none : Found.Nothing ≡ f → refuse noFreeRow t ≡ opened t k o f
   opened-none e = ap (opened t k o) e
 
-  pub opened-at : (i : ℕ) (a : Answer) (r : Row) (u : Table) → Found.At i ≡ f → _≡_ {A = Outcome Row} (record { answer = a; after = r }) o
-      → u ≡ withSlot t i (record { used = true; key = k; row = r }) → _≡_ {A = Outcome Table} (record { answer = a; after = u }) (opened t k o f)
-  opened-at i a r u e h q =
-      ap {B = Outcome Table} (λ (v : Table). record { answer = a; after = v }) q ∙ ap (λ (x : Outcome Row). opened t k x (Found.At i)) h ∙ ap (opened t k o) e
+  pub opened-at : (i : ℕ) (a : Answer) (r : Row) → Found.At i ≡ f → _≡_ {A = Outcome Row} (record { answer = a; after = r }) o
+      → _≡_ {A = Outcome Table} (record { answer = a; after = withSlot t i (record { used = true; key = k; row = r }) }) (opened t k o f)
+  opened-at i a r e h = ap (λ (x : Outcome Row). opened t k x (Found.At i)) h ∙ ap (opened t k o) e
 
-pub closed-at : (t : Table) (i : ℕ) (x : Slot) (u : Table) → slotAt t i .row .count ≡ 0 → x ≡ freeSlot → u ≡ withSlot t i x
-    → _≡_ {A = Outcome Table} (record { answer = accepted; after = u }) (closeBy t (Lookup.Open i))
-closed-at t i x u n e q =
-    ap {B = Outcome Table} (λ (v : Table). record { answer = accepted; after = v }) (q ∙ ap (withSlot t i) e) ∙ sym (if-yes _ _ _ (eq-eqb (slotAt t i .row .count) 0 n))
+-- something is held, or the row is free again
+module _ (t : Table) (i : ℕ) where
+  pub closed-not : (slotAt t i .row .count ≡ 0 → ⊥) → refuse stillHolding t ≡ closeBy t (Lookup.Open i)
+  closed-not n = sym (if-no _ _ _ (ne-eqb (slotAt t i .row .count) 0 n))
+
+  pub closed-at : (x : Slot) → slotAt t i .row .count ≡ 0 → x ≡ freeSlot → _≡_ {A = Outcome Table} (record { answer = accepted; after = withSlot t i x }) (closeBy t (Lookup.Open i))
+  closed-at x n e = ap {B = Outcome Table} (λ (y : Slot). record { answer = accepted; after = withSlot t i y }) e ∙ sym (if-yes _ _ _ (eq-eqb (slotAt t i .row .count) 0 n))
+
+-- what the code looked up stands for the key
+pub look-is : (t : Table) (named : Named) (r : Ruled) → Tested t (named .key) r → standingOf r (named .refusal) ≡ lookUp t named
+unfolding lookUp
+look-is t named r w = rw (← w .good) (go (r .good) refl)
+  where
+    go : (b : Bool) → r .good ≡ b
+        → (if no b then Lookup.Refused stateBroken else if 0 <? named .refusal then Lookup.Refused (named .refusal) else place (foundOr (r .found) Found.Nothing))
+        ≡ (if no b then Lookup.Refused stateBroken else if 0 <? named .refusal then Lookup.Refused (named .refusal) else place (first (hasKey (named .key)) 0 (t .slots)))
+    go false e = refl
+    go true e = ap (λ (f : Found). if 0 <? named .refusal then Lookup.Refused (named .refusal) else place f) (w .found e)
 
 -- the calls, from what the code looked up
 module _ (t : Table) (o s : List ℕ) (named : Named) (l : Lookup) (p : l ≡ lookUp t named) (q : named ≡ namedOf o s) where

@@ -17,7 +17,7 @@ use Rattle.keys.proofs.Names.{key-keeps}
 use Rattle.callsigns.specs.Callsign.{callsign}
 use Rattle.names.specs.Texts.{streamId}
 use Rattle.rows.specs.declared.Row.{Row}
-use Rattle.rows.specs.declared.Held.{Held}
+use Rattle.places.specs.declared.Held.{Held}
 use Rattle.rows.specs.Answer.{Answer, accepted, Outcome, refuse}
 use Rattle.rows.specs.Stream.{word, words, fresh, offer as row-offer}
 use Rattle.rows.specs.Row.{keepsRow, rowOf, offerOf, takeOf, forceOf}

@@ -7,12 +7,12 @@ use mathlib.Core.List.{List, [], _∷_}
 use mathlib.Core.Option.{Option, none, some as just}
 use lib.ListN.{length, getD, set}
 use Rattle.octets.specs.Words.{if_then_else_, _and_, _or_, no, every, some}
-use Rattle.octets.proofs.Tests.{if-yes, if-no, and-left, and-right, and-both, and-next, true-not-false}
+use Rattle.octets.proofs.Tests.{if-yes, if-no, and-left, and-right, and-both, and-next, or-no, true-not-false}
 use Rattle.keys.specs.declared.Key.{Key}
 use Rattle.keys.specs.Key.{sameKey}
 use Rattle.keys.proofs.SameKey.{sameKey-refl, sameKey-sym, sameKey-trans, sameKey-other}
 use Rattle.rows.specs.declared.Row.{Row}
-use Rattle.streams.specs.declared.Slot.{Slot}
+use Rattle.slots.specs.declared.Slot.{Slot}
 use Rattle.streams.specs.declared.Found.{Found}
 use Rattle.streams.specs.Table.{hasKey, twice, distinct, first, pastSlot}
 use Rattle.streams.specs.Meaning.{rowIn}
@@ -53,10 +53,6 @@ first-none p n (x ∷ l) e = go (p x) e (first-none p (n + 1) l)
 
 -- ---- tests of every slot, and of some slot
 
-or-false : (a b : Bool) → a or b ≡ false → (a ≡ false) × (b ≡ false)
-or-false true b e = true-not-false true refl e
-or-false false b e = (refl, e)
-
 pub every-set : (p : Slot → Bool) (l : List Slot) (i : ℕ) (y : Slot) → every p l ≡ true → p y ≡ true → every p (set l i y) ≡ true
 every-set p [] i y e q = refl
 every-set p (x ∷ l) zero y e q = and-both _ _ q (and-right (p x) _ e)
@@ -64,13 +60,13 @@ every-set p (x ∷ l) (suc i) y e q = and-both _ _ (and-left (p x) _ e) (every-s
 
 some-set : (p : Slot → Bool) (l : List Slot) (i : ℕ) (y : Slot) → some p l ≡ false → p y ≡ false → some p (set l i y) ≡ false
 some-set p [] i y e q = refl
-some-set p (x ∷ l) zero y e q = rw (q, or-false (p x) _ e .1)
-some-set p (x ∷ l) (suc i) y e q = rw (or-false (p x) _ e .0) (some-set p l i y (or-false (p x) _ e .1) q)
+some-set p (x ∷ l) zero y e q = rw (q, or-no (p x) _ e .1)
+some-set p (x ∷ l) (suc i) y e q = rw (or-no (p x) _ e .0) (some-set p l i y (or-no (p x) _ e .1) q)
 
 some-at : (p : Slot → Bool) (l : List Slot) (i : ℕ) → some p l ≡ false → p pastSlot ≡ false → p (getD l i pastSlot) ≡ false
 some-at p [] i e d = d
-some-at p (x ∷ l) zero e d = or-false (p x) _ e .0
-some-at p (x ∷ l) (suc i) e d = some-at p l i (or-false (p x) _ e .1) d
+some-at p (x ∷ l) zero e d = or-no (p x) _ e .0
+some-at p (x ∷ l) (suc i) e d = some-at p l i (or-no (p x) _ e .1) d
 
 -- ---- keys
 
@@ -172,23 +168,23 @@ other-key k x r q n = flip (sameKey (x .key) k) refl
 -- a key that no slot has may stand in any slot
 pub distinct-new : (l : List Slot) (i : ℕ) (k : Key) (r : Row) → distinct l ≡ true → some (hasKey k) l ≡ false → distinct (set l i (record { used = true; key = k; row = r })) ≡ true
 distinct-new [] i k r e n = refl
-distinct-new (x ∷ l) zero k r e n = and-both _ _ (no-is _ (or-false (hasKey k x) _ n .1)) (and-right (no (twice x l)) _ e)
+distinct-new (x ∷ l) zero k r e n = and-both _ _ (no-is _ (or-no (hasKey k x) _ n .1)) (and-right (no (twice x l)) _ e)
 distinct-new (x ∷ l) (suc i) k r e n =
-    and-both _ _ (no-is _ (go (x .used) refl)) (distinct-new l i k r (and-right (no (twice x l)) _ e) (or-false (hasKey k x) _ n .1))
+    and-both _ _ (no-is _ (go (x .used) refl)) (distinct-new l i k r (and-right (no (twice x l)) _ e) (or-no (hasKey k x) _ n .1))
   where
     go : (b : Bool) → x .used ≡ b → twice x (set l i (record { used = true; key = k; row = r })) ≡ false
     go false q = rw q
     go true q =
         let t : twice x l ≡ false = not-free _ (and-left (no (twice x l)) _ e) in
         let s : some (hasKey (x .key)) l ≡ false = sym (and-next (x .used) _ q) ∙ t in
-        and-next (x .used) _ q ∙ some-set (hasKey (x .key)) l i (record { used = true; key = k; row = r }) s (other-key k x r q (or-false (hasKey k x) _ n .0))
+        and-next (x .used) _ q ∙ some-set (hasKey (x .key)) l i (record { used = true; key = k; row = r }) s (other-key k x r q (or-no (hasKey k x) _ n .0))
 
 -- ---- the row that stands for a key
 
 module _ (k : Key) where
   pub row-none : (l : List Slot) → some (hasKey k) l ≡ false → rowIn k l ≡ none
   row-none [] e = refl
-  row-none (x ∷ l) e = if-no _ _ _ (or-false (hasKey k x) _ e .0) ∙ row-none l (or-false (hasKey k x) _ e .1)
+  row-none (x ∷ l) e = if-no _ _ _ (or-no (hasKey k x) _ e .0) ∙ row-none l (or-no (hasKey k x) _ e .1)
 
   -- a key that has no row stands in no slot
   pub none-some : (l : List Slot) → rowIn k l ≡ none → some (hasKey k) l ≡ false
@@ -215,7 +211,7 @@ module _ (k : Key) where
   pub row-new : (l : List Slot) (i : ℕ) (y : Slot) → some (hasKey k) l ≡ false → i < length l → hasKey k y ≡ true → rowIn k (set l i y) ≡ just (y .row)
   row-new [] i y n h e = absurd (omega arith)
   row-new (x ∷ l) zero y n h e = if-yes _ _ _ e
-  row-new (x ∷ l) (suc i) y n h e = if-no _ _ _ (or-false (hasKey k x) _ n .0) ∙ row-new l i y (or-false (hasKey k x) _ n .1) (omega arith) e
+  row-new (x ∷ l) (suc i) y n h e = if-no _ _ _ (or-no (hasKey k x) _ n .0) ∙ row-new l i y (or-no (hasKey k x) _ n .1) (omega arith) e
 
   as-some : (j : Key) (l : List Slot) → sameKey j k ≡ true → some (hasKey j) l ≡ some (hasKey k) l
   as-some j [] e = refl

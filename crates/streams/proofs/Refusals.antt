@@ -5,12 +5,12 @@ use mathlib.Core.List.{List}
 use lib.Seq.{set-getD}
 use mathlib.Core.Bool.{true}
 use Rattle.keys.specs.declared.Key.{Key}
-use Rattle.rows.specs.declared.Held.{Held}
+use Rattle.places.specs.declared.Held.{Held}
 use Rattle.rows.specs.declared.Row.{Row}
 use Rattle.rows.specs.Answer.{Outcome}
 use Rattle.rows.specs.Stream.{word, words}
 use Rattle.rows.proofs.Refusals.{Unmoved}
-use Rattle.streams.specs.declared.Slot.{Slot}
+use Rattle.slots.specs.declared.Slot.{Slot}
 use Rattle.streams.specs.declared.Table.{Table}
 use Rattle.streams.specs.Table.{slotAt, withSlot, pastSlot}
 use Rattle.streams.specs.Calls.{offer, take, force, close}

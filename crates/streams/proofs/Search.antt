@@ -1,20 +1,16 @@
 -- Searches in the slots: what a turn of each loop comes to, and where what was found stands.
-use mathlib.Core.Path.{_≡_, sym, _∙_}
+use mathlib.Core.Path.{_≡_}
 use Prim.Native.Nat.{ℕ, suc, _+_, _≤_, _<_}
 use native.Mathlib.Omega.{arith}
 use mathlib.Core.Bool.{Bool, true, false}
-use mathlib.Core.List.{List, [], _∷_, map}
-use lib.ListN.{length, getD, drop, length-map, drop-of-length-le}
+use mathlib.Core.List.{List, [], _∷_}
+use lib.ListN.{length, getD, drop, drop-of-length-le}
 use Rattle.octets.specs.Words.{if_then_else_}
 use Rattle.octets.proofs.Tests.{and-not-left, and-next, no-true, no-false}
 use Rattle.octets.proofs.Lists.{drop-next}
-use Rattle.streams.specs.declared.Slot.{Slot}
+use Rattle.slots.specs.declared.Slot.{Slot}
 use Rattle.streams.specs.declared.Found.{Found}
 use Rattle.streams.specs.Table.{twice, distinct, first, count}
-
--- what owning a table tells of its array of slots
-pub unmapped : (X Y : Type 0) (f : X → Y) (l : List X) (n : ℕ) → length (map f l) ≡ n → length l ≡ n
-unmapped X Y f l n e = sym (length-map l f) ∙ e
 
 -- ---- a turn of a loop
 

@@ -12,7 +12,7 @@ use Rattle.refusals.specs.Numbers.{stateBroken, noCallsign, streamIdMalformed, 
 use Rattle.keys.specs.Key.{keyOf, namedOf}
 use Rattle.callsigns.specs.Callsign.{callsign}
 use Rattle.names.specs.Texts.{streamId}
-use Rattle.rows.specs.declared.Held.{Held}
+use Rattle.places.specs.declared.Held.{Held}
 use Rattle.rows.specs.Answer.{refuse}
 use Rattle.rows.specs.Stream.{fresh}
 use Rattle.rows.specs.Row.{rowOf, offerOf}

@@ -8,7 +8,7 @@ use Rattle.keys.specs.declared.Key.{Key}
 use Rattle.keys.specs.declared.Named.{Named}
 use Rattle.keys.specs.Key.{namedOf, noKey}
 use Rattle.rows.specs.declared.Row.{Row}
-use Rattle.rows.specs.declared.Held.{Held}
+use Rattle.places.specs.declared.Held.{Held}
 use Rattle.rows.specs.Answer.{accepted, refused, Outcome, refuse}
 use Rattle.rows.specs.Stream.{fresh}
 use Rattle.rows.specs.Row.{rowOf, noRow, offerOf, takeOf, forceOf}

@@ -2,4 +2,5 @@
 pub mod Answer
 pub mod Table
 pub mod Calls
+pub mod Steps
 pub mod Meaning

@@ -1,30 +1,14 @@
 -- Document 01, "Streams": 32 rows by key. A slot of the table, the rules that a table keeps (40), and the searches in it.
 use Prim.Native.Nat.{ℕ, _+_}
-use mathlib.Core.Bool.{Bool, true, false}
+use mathlib.Core.Bool.{Bool, true}
 use mathlib.Core.List.{List, [], _∷_}
 use lib.ListN.{length, getD, set, replicate}
 use Rattle.octets.specs.Words.{if_then_else_, _and_, no, every, some, _=?_}
-use Rattle.keys.specs.declared.Key.{Key}
-use Rattle.keys.specs.Key.{sameKey, keepsKey, isNoKey, noKey}
-use Rattle.rows.specs.Row.{keepsRow, isNoRow, noRow}
-use Rattle.streams.specs.declared.Slot.{Slot}
+use Rattle.slots.specs.declared.Slot.{Slot}
+pub use Rattle.slots.specs.Slot.{freeSlot, isFree, pastSlot}
+unfoldable pub use Rattle.slots.specs.Slot.{keepsSlot, hasKey}
 use Rattle.streams.specs.declared.Table.{Table}
 use Rattle.streams.specs.declared.Found.{Found}
-
--- ---- a slot: an open row with its key, or a free row, which is all zero
-
-abbrev pub freeSlot : Slot
-freeSlot = record { used = false; key = noKey; row = noRow }
-
-abbrev pub isFree : Slot → Bool
-isFree x = no (x .used)
-
-unfoldable pub keepsSlot : Slot → Bool
-keepsSlot x = if x .used then keepsKey (x .key) and keepsRow (x .row) else isNoKey (x .key) and isNoRow (x .row)
-
--- the slot is open and has the key
-unfoldable pub hasKey : Key → Slot → Bool
-hasKey k x = x .used and sameKey k (x .key)
 
 -- ---- the state rules of a table (40)
 
@@ -54,15 +38,6 @@ count p [] = 0
 count p (x ∷ rest) = (if p x then 1 else 0) + count p rest
 
 -- ---- places
-
--- what a list gives past its end
-abbrev pub pastSlot : Slot
-pastSlot =
-    record {
-      used = false;
-      key = record { originator = []; «originator_len» = 0; «stream_id» = []; «stream_id_len» = 0 };
-      row = record { expected = 0; clock = 0; «gap_start» = 0; count = 0; held = [] };
-    }
 
 abbrev pub slotAt : Table → ℕ → Slot
 slotAt t i = getD (t .slots) i pastSlot

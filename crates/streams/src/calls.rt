@@ -1,58 +1,67 @@
-// The calls by key: what stands for a key, then the row's own call, or a refusal.
+// What stands for a key, and a row opened for a key that has none.
 ghost use mathlib.Core.Path.{_≡_};
-ghost use Prim.Native.Nat.{_<_};
-ghost use Rattle.rows.specs.Answer.{refuse, refused};
-ghost use Rattle.rows.specs.Row.{offerOf, takeOf, forceOf, noRow};
+ghost use Rattle.rows.specs.Answer.{refused};
+ghost use Rattle.rows.specs.Row.{noRow};
 ghost use Rattle.keys.specs.Key.{noKey};
-ghost use Rattle.streams.specs.Answer.{servedSays, takenSays, shownSays};
-ghost use Rattle.streams.specs.Table.{slotAt, withSlot};
-ghost use Rattle.streams.specs.Calls.{lookUp, onRow, offerBy, closeBy};
+ghost use Rattle.streams.specs.Answer.{servedSays, shownSays};
+ghost use Rattle.streams.specs.Calls.{offerBy};
+ghost use Rattle.streams.specs.Steps.{standingOf};
 use crate::Found;
 use crate::Lookup;
 use crate::Served;
 use crate::Shown;
-use crate::Slot;
 use crate::Table;
-use crate::Taken;
-use crate::slots;
+use crate::rules;
+use crate::rules::Ruled;
 use keys::Key;
-use keys::Named;
+use places::Held;
 use rows::Accepting;
-use rows::Giving;
-use rows::Held;
 use rows::Row;
+use slots::Slot;
 
-pub(crate) fn look_up(t: Table, named: Named) -> Lookup
-    ensures { λ r. ⌜ r ≡ lookUp t named ⌝ }
+// What stands for a key, by the tests in their order: 40, then the names' refusal, then the place where it was found.
+pub(crate) fn standing(r: Ruled, refusal: u8) -> Lookup
+    ensures { λ l. ⌜ l ≡ standingOf r refusal ⌝ }
 {
-    if !slots::keep_rules(t) {
+    if !r.good {
         return Lookup::Refused(refusals::STATE_BROKEN);
     }
-    if named.refusal > 0 {
-        return Lookup::Refused(named.refusal);
+    if refusal > 0 {
+        return Lookup::Refused(refusal);
     }
-    let key = named.key;
-    let f = slots::find(t, key);
-    match f {
-        Found::At(i) => Lookup::Open(i),
-        Found::Nothing => Lookup::Unknown,
+    if r.found < 32 {
+        return Lookup::Open(r.found);
     }
+    Lookup::Unknown
 }
 
-pub(crate) fn refused(n: u8, t: Table) -> Served
-    ensures { λ r. ⌜ servedSays r ≡ refuse n t ⌝ }
+// An unknown key expects 1 and takes the lowest free row.
+pub(crate) fn offer_new(mut t: Table, key: Key, m: Held, time: u32) -> Served
+    ensures { λ r. ⌜ servedSays r ≡ offerBy t key m time Lookup.Unknown ⌝ }
 {
+    if m.number < 1 {
+        return Served {
+            answer: Accepting::Refused(refusals::STALE),
+            table: t,
+        };
+    }
+    let f = rules::find_free(t);
+    let Found::At(i) = f else {
+        return Served {
+            answer: Accepting::Refused(refusals::NO_FREE_ROW),
+            table: t,
+        };
+    };
+    let o = Row::new().offer(m.number, m.timeout, m.slip, time);
+    let answer = o.answer;
+    let next = o.row;
+    t.slots[i] = Slot {
+        used: true,
+        key: key,
+        row: next,
+    };
     Served {
-        answer: Accepting::Refused(n),
-        table: t,
-    }
-}
-
-pub(crate) fn refused_take(n: u8, t: Table) -> Taken
-    ensures { λ r. ⌜ takenSays r ≡ refuse n t ⌝ }
-{
-    Taken {
-        answer: Giving::Refused(n),
+        answer: answer,
         table: t,
     }
 }
@@ -66,115 +75,5 @@ pub(crate) fn unseen(n: u8) -> Shown
         answer: Accepting::Refused(n),
         key: key,
         row: row,
-    }
-}
-
-fn put(t: Table, i: usize, x: Slot) -> Table
-    requires { ⌜ i < 32 ⌝ }
-    ensures { λ r. ⌜ r ≡ withSlot t i x ⌝ }
-{
-    let mut u = t;
-    u.slots[i] = x;
-    u
-}
-
-// Row i after a call.
-fn put_row(t: Table, i: usize, row: Row) -> Table
-    requires { ⌜ i < 32 ⌝ }
-    ensures { λ r. ⌜ r ≡ withSlot t i (record { used = slotAt t i .used; key = slotAt t i .key; row = row }) ⌝ }
-{
-    let mut x = t.slots[i];
-    x.row = row;
-    put(t, i, x)
-}
-
-pub(crate) fn offer_at(t: Table, i: usize, m: Held, time: u32) -> Served
-    requires { ⌜ i < 32 ⌝ }
-    ensures { λ r. ⌜ servedSays r ≡ onRow t i (offerOf (slotAt t i .row) m time) ⌝ }
-{
-    let x = t.slots[i];
-    let row = x.row;
-    let o = row.offer(m.number, m.timeout, m.slip, time);
-    let answer = o.answer;
-    let next = o.row;
-    let u = put_row(t, i, next);
-    Served {
-        answer: answer,
-        table: u,
-    }
-}
-
-// An unknown key expects 1 and takes the lowest free row.
-pub(crate) fn offer_new(t: Table, key: Key, m: Held, time: u32) -> Served
-    ensures { λ r. ⌜ servedSays r ≡ offerBy t key m time Lookup.Unknown ⌝ }
-{
-    if m.number < 1 {
-        return refused(refusals::STALE, t);
-    }
-    let f = slots::find_free(t);
-    let Found::At(i) = f else {
-        return refused(refusals::NO_FREE_ROW, t);
-    };
-    let o = Row::new().offer(m.number, m.timeout, m.slip, time);
-    let answer = o.answer;
-    let next = o.row;
-    let x = Slot {
-        used: true,
-        key: key,
-        row: next,
-    };
-    let u = put(t, i, x);
-    Served {
-        answer: answer,
-        table: u,
-    }
-}
-
-pub(crate) fn take_at(t: Table, i: usize, time: u32) -> Taken
-    requires { ⌜ i < 32 ⌝ }
-    ensures { λ r. ⌜ takenSays r ≡ onRow t i (takeOf (slotAt t i .row) time) ⌝ }
-{
-    let x = t.slots[i];
-    let row = x.row;
-    let o = row.take(time);
-    let answer = o.answer;
-    let next = o.row;
-    let u = put_row(t, i, next);
-    Taken {
-        answer: answer,
-        table: u,
-    }
-}
-
-pub(crate) fn force_at(t: Table, i: usize, time: u32) -> Taken
-    requires { ⌜ i < 32 ⌝ }
-    ensures { λ r. ⌜ takenSays r ≡ onRow t i (forceOf (slotAt t i .row) time) ⌝ }
-{
-    let x = t.slots[i];
-    let row = x.row;
-    let o = row.force(time);
-    let answer = o.answer;
-    let next = o.row;
-    let u = put_row(t, i, next);
-    Taken {
-        answer: answer,
-        table: u,
-    }
-}
-
-pub(crate) fn close_at(t: Table, i: usize) -> Served
-    requires { ⌜ i < 32 ⌝ }
-    ensures { λ r. ⌜ servedSays r ≡ closeBy t (Lookup.Open i) ⌝ }
-{
-    let x = t.slots[i];
-    let row = x.row;
-    if row.count != 0 {
-        return refused(refusals::STILL_HOLDING, t);
-    }
-    let free = slots::free_slot();
-    let u = put(t, i, free);
-    Served {
-        answer: Accepting::Accepted,
-        table: u,
     }
 }

@@ -6,20 +6,14 @@ ghost use Rattle.streams.specs.Table.{empty};
 ghost use Rattle.streams.specs.Calls.{offer, take, force, close, openRows, rowAt};
 
 mod calls;
-mod slots;
+mod rules;
 
 use keys::Key;
+use places::Held;
 use rows::Accepting;
 use rows::Giving;
-use rows::Held;
 use rows::Row;
-
-// An open row with its key, or a free one, all zero.
-pub struct Slot {
-    pub used: bool,
-    pub key: Key,
-    pub row: Row,
-}
+use slots::Slot;
 
 pub struct Table {
     pub slots: [Slot; 32],
@@ -64,13 +58,13 @@ impl Table {
     pub fn new() -> Table
         ensures { λ r. ⌜ r ≡ empty ⌝ }
     {
-        let x = slots::free_slot();
+        let x = Slot::free();
         Table { slots: [x; 32] }
     }
 
     // Offers a message to a stream; an unknown stream is opened.
     pub fn offer(
-        self,
+        mut self,
         originator: &[u8],
         stream_id: &[u8],
         number: u32,
@@ -80,59 +74,135 @@ impl Table {
     ) -> Served
         ensures { λ r. ⌜ servedSays r ≡ offer self (now (originator .entry)) (now («stream_id» .entry)) (record { number = number; timeout = timeout; slip = slip }) time ⌝ }
     {
-        let m = Held {
-            number: number,
-            timeout: timeout,
-            slip: slip,
-        };
         let named = keys::name(originator, stream_id);
-        let l = calls::look_up(self, named);
+        let key = named.key;
+        let r = rules::test(self, key);
+        let l = calls::standing(r, named.refusal);
         match l {
-            Lookup::Refused(n) => calls::refused(n, self),
-            Lookup::Open(i) => calls::offer_at(self, i, m, time),
+            Lookup::Refused(n) => Served {
+                answer: Accepting::Refused(n),
+                table: self,
+            },
+            Lookup::Open(i) => {
+                let mut x = self.slots[i];
+                let row = x.row;
+                let o = row.offer(number, timeout, slip, time);
+                let answer = o.answer;
+                let next = o.row;
+                x.row = next;
+                self.slots[i] = x;
+                Served {
+                    answer: answer,
+                    table: self,
+                }
+            }
             Lookup::Unknown => {
-                let key = named.key;
+                let m = Held {
+                    number: number,
+                    timeout: timeout,
+                    slip: slip,
+                };
                 calls::offer_new(self, key, m, time)
             }
         }
     }
 
     // Takes a stream's lowest held message if it is due.
-    pub fn take(self, originator: &[u8], stream_id: &[u8], time: u32) -> Taken
+    pub fn take(mut self, originator: &[u8], stream_id: &[u8], time: u32) -> Taken
         ensures { λ r. ⌜ takenSays r ≡ take self (now (originator .entry)) (now («stream_id» .entry)) time ⌝ }
     {
         let named = keys::name(originator, stream_id);
-        let l = calls::look_up(self, named);
+        let key = named.key;
+        let r = rules::test(self, key);
+        let l = calls::standing(r, named.refusal);
         match l {
-            Lookup::Refused(n) => calls::refused_take(n, self),
-            Lookup::Open(i) => calls::take_at(self, i, time),
-            Lookup::Unknown => calls::refused_take(refusals::NO_SUCH_STREAM, self),
+            Lookup::Refused(n) => Taken {
+                answer: Giving::Refused(n),
+                table: self,
+            },
+            Lookup::Open(i) => {
+                let mut x = self.slots[i];
+                let row = x.row;
+                let o = row.take(time);
+                let answer = o.answer;
+                let next = o.row;
+                x.row = next;
+                self.slots[i] = x;
+                Taken {
+                    answer: answer,
+                    table: self,
+                }
+            }
+            Lookup::Unknown => Taken {
+                answer: Giving::Refused(refusals::NO_SUCH_STREAM),
+                table: self,
+            },
         }
     }
 
     // Takes a stream's lowest held message, whatever the gap.
-    pub fn force(self, originator: &[u8], stream_id: &[u8], time: u32) -> Taken
+    pub fn force(mut self, originator: &[u8], stream_id: &[u8], time: u32) -> Taken
         ensures { λ r. ⌜ takenSays r ≡ force self (now (originator .entry)) (now («stream_id» .entry)) time ⌝ }
     {
         let named = keys::name(originator, stream_id);
-        let l = calls::look_up(self, named);
+        let key = named.key;
+        let r = rules::test(self, key);
+        let l = calls::standing(r, named.refusal);
         match l {
-            Lookup::Refused(n) => calls::refused_take(n, self),
-            Lookup::Open(i) => calls::force_at(self, i, time),
-            Lookup::Unknown => calls::refused_take(refusals::NO_SUCH_STREAM, self),
+            Lookup::Refused(n) => Taken {
+                answer: Giving::Refused(n),
+                table: self,
+            },
+            Lookup::Open(i) => {
+                let mut x = self.slots[i];
+                let row = x.row;
+                let o = row.force(time);
+                let answer = o.answer;
+                let next = o.row;
+                x.row = next;
+                self.slots[i] = x;
+                Taken {
+                    answer: answer,
+                    table: self,
+                }
+            }
+            Lookup::Unknown => Taken {
+                answer: Giving::Refused(refusals::NO_SUCH_STREAM),
+                table: self,
+            },
         }
     }
 
     // Frees a stream's row, where nothing is held.
-    pub fn close(self, originator: &[u8], stream_id: &[u8]) -> Served
+    pub fn close(mut self, originator: &[u8], stream_id: &[u8]) -> Served
         ensures { λ r. ⌜ servedSays r ≡ close self (now (originator .entry)) (now («stream_id» .entry)) ⌝ }
     {
         let named = keys::name(originator, stream_id);
-        let l = calls::look_up(self, named);
+        let key = named.key;
+        let r = rules::test(self, key);
+        let l = calls::standing(r, named.refusal);
         match l {
-            Lookup::Refused(n) => calls::refused(n, self),
-            Lookup::Open(i) => calls::close_at(self, i),
-            Lookup::Unknown => calls::refused(refusals::NO_SUCH_STREAM, self),
+            Lookup::Refused(n) => Served {
+                answer: Accepting::Refused(n),
+                table: self,
+            },
+            Lookup::Open(i) => {
+                if self.slots[i].row.count != 0 {
+                    return Served {
+                        answer: Accepting::Refused(refusals::STILL_HOLDING),
+                        table: self,
+                    };
+                }
+                self.slots[i] = Slot::free();
+                Served {
+                    answer: Accepting::Accepted,
+                    table: self,
+                }
+            }
+            Lookup::Unknown => Served {
+                answer: Accepting::Refused(refusals::NO_SUCH_STREAM),
+                table: self,
+            },
         }
     }
 
@@ -140,17 +210,29 @@ impl Table {
     pub fn open_rows(self) -> Count
         ensures { λ r. ⌜ countSays r ≡ openRows self ⌝ }
     {
-        if !slots::keep_rules(self) {
+        let key = keys::none();
+        let r = rules::test(self, key);
+        if !r.good {
             return Count::Refused(refusals::STATE_BROKEN);
         }
-        Count::Rows(slots::used_count(self))
+        let mut sum: usize = 0;
+        let mut i: usize = 0;
+        while i < 32 {
+            if self.slots[i].used {
+                sum += 1;
+            }
+            i += 1;
+        }
+        Count::Rows(sum)
     }
 
     // Row `number`, 0 to 31, with its key.
     pub fn row_at(self, number: usize) -> Shown
         ensures { λ r. ⌜ shownSays r ≡ rowAt self number ⌝ }
     {
-        if !slots::keep_rules(self) {
+        let key = keys::none();
+        let r = rules::test(self, key);
+        if !r.good {
             return calls::unseen(refusals::STATE_BROKEN);
         }
         if number >= 32 {

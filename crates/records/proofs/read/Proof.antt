@@ -5,7 +5,7 @@ use native.Mathlib.Omega.{arith}
 use borrow.Author.Needs.{needs}
 use borrow.Author.Tests.{not-true, not-false}
 use lib.ListN.{length}
-use Rattle.records.specs.Record.{key, row, readingOf}
+use Rattle.records.specs.Record.{readingOf}
 use Rattle.records.proofs.Found.{body-1, body-room-1, body-2, body-3, body-room-2}
 use Rattle.records.proofs.read.Statement.{statement}
 use Rattle.records.proofs.read.Tie as tie

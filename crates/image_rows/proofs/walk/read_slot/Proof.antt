@@ -15,9 +15,9 @@ short c = search needs
 
 returns : tie.Need-returns
 returns c =
-    let at-free-slot = c .before .before .free-slot in
+    let at-free = c .before .before .free in
     let at-args = c .before .before .before .before .args in
-    rw (at-free-slot .ensures) (sym (ap slotRead (slot-free (at-args .i) (at-args .d .now) (sym (c .before .is-marked .ensures) ∙ not-true _ (c .if1 .taken)))))
+    rw (at-free .ensures) (sym (ap slotRead (slot-free (at-args .i) (at-args .d .now) (sym (c .before .is-marked .ensures) ∙ not-true _ (c .if1 .taken)))))
 
 sub-read : tie.Need-sub-read
 sub-read c =
@@ -31,12 +31,12 @@ part-read-start c =
 
 returns-2 : tie.Need-returns-2
 returns-2 c =
-    let at-free-slot = c .before .before .before .before .before .before .free-slot in
+    let at-free = c .before .before .before .before .before .before .free in
     let at-args = c .before .before .before .before .before .before .before .before .args in
     let at-is-marked = c .before .before .before .before .before .is-marked in
     let at-if1 = c .before .before .before .before .if1 in
     let at-read = c .before .before .read in
-    rw (at-free-slot .ensures) (sym (ap slotRead (slot-bad (at-args .i) (at-args .d .now) (sym (at-is-marked .ensures) ∙ not-false _ (at-if1 .left)) _ (at-read .ensures) (not-true _ (c .if2 .taken)))))
+    rw (at-free .ensures) (sym (ap slotRead (slot-bad (at-args .i) (at-args .d .now) (sym (at-is-marked .ensures) ∙ not-false _ (at-if1 .left)) _ (at-read .ensures) (not-true _ (c .if2 .taken)))))
 
 add-t10 : tie.Need-add-t10
 add-t10 c =

@@ -3,7 +3,8 @@ use mathlib.Core.Path.{_≡_, refl, sym, ap, _∙_}
 use native.Mathlib.Omega.{arith}
 use lib.ListN.{length, take}
 use lib.Seq.{take-all}
-use Rattle.rows.proofs.Packing.{unmapped}
+use Rattle.octets.proofs.Lists.{unmapped}
+use Rattle.recorder.proofs.Behind.{left}
 use lib.Seq.{length-take-le}
 use Rattle.recorder.proofs.placing.held_count.Statement.{statement}
 use Rattle.recorder.proofs.placing.held_count.Tie as tie

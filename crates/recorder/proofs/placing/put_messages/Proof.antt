@@ -6,7 +6,7 @@ use borrow.Author.Needs.{needs}
 use lib.ListN.{length, take}
 use Rattle.octets.specs.Bytes.{placed}
 use Rattle.octets.specs.Field.{manyPrint}
-use Rattle.rows.proofs.Packing.{unmapped}
+use Rattle.octets.proofs.Lists.{unmapped}
 use Rattle.records.specs.Record.{message}
 use Rattle.recorder.proofs.Behind.{left, left-room, left-turn, left-end}
 use Rattle.recorder.proofs.placing.put_messages.Statement.{statement}

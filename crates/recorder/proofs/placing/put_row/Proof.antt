@@ -20,8 +20,8 @@ put-messages-requires c κs =
 returns : tie.Need-returns
 returns c =
     let at-args = c .before .before .before .before .before .before .before .before .before .before .before .before .before .before .before .before .before .before .before .before .before .before .before .before .before .before .args in
-    let at-wide = c .before .before .before .before .before .before .before .before .before .before .before .before .before .before .before .before .before .before .wide in
-    let at-wide2 = c .before .before .before .before .before .before .before .before .before .before .before .before .before .wide2 in
+    let at-wide32 = c .before .before .before .before .before .before .before .before .before .before .before .before .before .before .before .before .before .before .wide32 in
+    let at-wide322 = c .before .before .before .before .before .before .before .before .before .before .before .before .before .wide322 in
     let at-wide-size = c .before .before .before .before .before .before .before .before .wide-size in
     let at-held-count = c .before .before .before .before .before .before .before .before .before .before .before .before .before .before .before .before .before .before .before .before .before .before .before .held-count in
     let at-put-number = c .before .before .before .before .before .before .before .before .before .before .before .before .before .before .before .before .before .before .before .before .before .put-number in
@@ -30,7 +30,7 @@ returns c =
     let at-put-number4 = c .before .before .before .before .before .before .put-number4 in
     let at-put-messages = c .before .before .put-messages in
     let at-pre = c .before .before .before .before .before .before .before .before .before .before .before .before .before .before .before .before .before .before .before .before .before .before .before .before .before .before .pre in
-    row-placed (at-args .r) _ _ _ (at-args .at) _ (at-args .out .now) _ _ _ _ _ (at-wide .ensures) (at-wide2 .ensures) (at-wide-size .ensures ∙ at-held-count .ensures .0) (sym (at-held-count .ensures .2)) (at-put-number .ensures .1) (at-put-number2 .ensures .1) (at-put-number3 .ensures .1) (at-put-number4 .ensures .1) (at-put-messages .ensures) (at-pre)
+    row-placed (at-args .r) _ _ _ (at-args .at) _ (at-args .out .now) _ _ _ _ _ (at-wide32 .ensures .0) (at-wide322 .ensures .0) (at-wide-size .ensures ∙ at-held-count .ensures .0) (sym (at-held-count .ensures .2)) (at-put-number .ensures .1) (at-put-number2 .ensures .1) (at-put-number3 .ensures .1) (at-put-number4 .ensures .1) (at-put-messages .ensures) (at-pre)
 
 pub put-row-spec : {M : Type 1} → statement M
 put-row-spec =

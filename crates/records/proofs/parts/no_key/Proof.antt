@@ -1,6 +1,5 @@
 -- Where the bytes are no key.
 use borrow.Author.Needs.{needs}
-use Rattle.records.specs.Record.{key}
 use Rattle.records.proofs.parts.no_key.Statement.{statement}
 use Rattle.records.proofs.parts.no_key.Tie as tie
 

@@ -1,6 +1,5 @@
 -- Where the bytes are no row.
 use borrow.Author.Needs.{needs}
-use Rattle.records.specs.Record.{row}
 use Rattle.records.proofs.parts.no_row.Statement.{statement}
 use Rattle.records.proofs.parts.no_row.Tie as tie
 

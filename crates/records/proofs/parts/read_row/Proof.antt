@@ -5,7 +5,6 @@ use native.Mathlib.Omega.{arith}
 use borrow.Author.Needs.{needs}
 use borrow.Author.Tests.{not-true, not-false}
 use lib.ListN.{length}
-use Rattle.records.specs.Record.{row}
 use Rattle.records.specs.Steps.{rowRead}
 use Rattle.records.proofs.Found.{heading-is, row-5, row-6, row-not, row-yes, room-used}
 use Rattle.records.proofs.parts.read_row.Statement.{statement}

@@ -2,21 +2,10 @@
 use native.Mathlib.Omega.{arith}
 use borrow.Author.Needs.{needs}
 use Rattle.rows.specs.Stream.{offer}
-use Rattle.rows.specs.Row.{heldIn}
-use Rattle.rows.proofs.Packing.{place-le}
 use Rattle.rows.proofs.Rules.{kept-row}
 use Rattle.rows.proofs.Steps.{accept-is}
 use Rattle.rows.proofs.calls.accept.Statement.{statement}
 use Rattle.rows.proofs.calls.accept.Tie as tie
-
-place-requires : tie.Need-place-requires
-place-requires c κs = kept-row _ (c .before .pre .0) .most
-
-with-at-requires : tie.Need-with-at-requires
-with-at-requires c κs =
-    let at-args = c .before .before .args in
-    let at-pre = c .before .before .pre in
-    let p = place-le (at-args .m .number) (heldIn (at-args .r)) in omega (arith, c .place .ensures, at-pre .1)
 
 add-gap-open : tie.Need-add-gap-open
 add-gap-open c =
@@ -41,8 +30,8 @@ pub accept-spec : {M : Type 1} → statement M
 accept-spec =
     tie.close
     (tie.spec
-    place-requires
-    with-at-requires
+    (λ c κs. search needs)
+    (λ c κs. search needs)
     (λ c κs. search needs)
     add-gap-open
     (λ c κs. search needs)

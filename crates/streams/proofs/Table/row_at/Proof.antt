@@ -13,39 +13,40 @@ use Rattle.streams.proofs.Table.row_at.Tie as tie
 returns : tie.Need-returns
 unfolding rowAt
 returns c =
-    let at-keep-rules = c .before .before .keep-rules in
-    c .unseen .ensures ∙ sym (if-yes _ _ _ (no-false _ (sym (at-keep-rules .ensures) ∙ not-true _ (c .before .if1 .taken))))
+    let at-test = c .before .before .before .test in
+    c .unseen .ensures ∙ sym (if-yes _ _ _ (no-false _ (sym (at-test .ensures .good) ∙ not-true _ (c .before .if1 .taken))))
 
 returns-2 : tie.Need-returns-2
 unfolding rowAt
 returns-2 c =
-    let at-keep-rules = c .before .before .before .keep-rules in
+    let at-test = c .before .before .before .before .test in
     let at-if1 = c .before .before .if1 in
-    c .unseen2 .ensures ∙ sym (if-no _ _ _ (no-true _ (sym (at-keep-rules .ensures) ∙ not-false _ (at-if1 .left))) ∙ if-no _ _ _ (and-not-left _ _ (le-ltb _ _ (c .before .if2 .taken))))
+    c .unseen2 .ensures ∙ sym (if-no _ _ _ (no-true _ (sym (at-test .ensures .good) ∙ not-false _ (at-if1 .left))) ∙ if-no _ _ _ (and-not-left _ _ (le-ltb _ _ (c .before .if2 .taken))))
 
 returns-3 : tie.Need-returns-3
 unfolding rowAt
 returns-3 c =
-    let at-keep-rules = c .before .before .before .before .before .before .keep-rules in
+    let at-test = c .before .before .before .before .before .before .before .test in
     let at-if1 = c .before .before .before .before .before .if1 in
     let at-if2 = c .before .before .before .before .if2 in
-    let at-args = c .before .before .before .before .before .before .before .args in
-    c .unseen3 .ensures ∙ sym (if-no _ _ _ (no-true _ (sym (at-keep-rules .ensures) ∙ not-false _ (at-if1 .left))) ∙ if-no _ _ _ (and-next _ _ (lt-ltb _ _ (at-if2 .left)) ∙ not-true (getD (at-args .t1 .slots) (at-args .number) pastSlot .used) (c .before .if3 .taken)))
+    let at-args = c .before .before .before .before .before .before .before .before .before .args in
+    c .unseen3 .ensures ∙ sym (if-no _ _ _ (no-true _ (sym (at-test .ensures .good) ∙ not-false _ (at-if1 .left))) ∙ if-no _ _ _ (and-next _ _ (lt-ltb _ _ (at-if2 .left)) ∙ not-true (getD (at-args .t1 .slots) (at-args .number) pastSlot .used) (c .before .if3 .taken)))
 
 returns-4 : tie.Need-returns-4
 unfolding rowAt
 returns-4 c =
-    let at-keep-rules = c .before .before .before .before .before .before .before .keep-rules in
+    let at-test = c .before .before .before .before .before .before .before .before .test in
     let at-if1 = c .before .before .before .before .before .before .if1 in
     let at-if2 = c .before .before .before .before .before .if2 in
-    let at-args = c .before .before .before .before .before .before .before .before .args in
+    let at-args = c .before .before .before .before .before .before .before .before .before .before .args in
     let at-if3 = c .before .before .if3 in
-    sym (if-no _ _ _ (no-true _ (sym (at-keep-rules .ensures) ∙ not-false _ (at-if1 .left))) ∙ if-yes _ _ _ (and-both _ _ (lt-ltb _ _ (at-if2 .left)) (not-false (getD (at-args .t1 .slots) (at-args .number) pastSlot .used) (at-if3 .left))))
+    sym (if-no _ _ _ (no-true _ (sym (at-test .ensures .good) ∙ not-false _ (at-if1 .left))) ∙ if-yes _ _ _ (and-both _ _ (lt-ltb _ _ (at-if2 .left)) (not-false (getD (at-args .t1 .slots) (at-args .number) pastSlot .used) (at-if3 .left))))
 
 pub row-at-spec : {M : Type 1} → statement M
 row-at-spec =
     tie.close
     (tie.spec
+    (λ c κs. search needs)
     (λ c κs. search needs)
     (λ c κs. search needs)
     returns

@@ -1,0 +1,4 @@
+-- Document 01, "Streams": held messages.
+pub mod Messages
+pub mod Places
+pub mod Steps

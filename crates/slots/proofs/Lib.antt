@@ -1,0 +1,2 @@
+-- Every public function's contract leaves one outcome.
+pub mod Unique

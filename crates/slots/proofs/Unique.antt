@@ -1,0 +1,35 @@
+-- Every public function leaves one outcome and asks nothing.
+use mathlib.Core.Path.{refl, sym, _∙_}
+use Rattle.octets.specs.Unique.{One, Free}
+use Rattle.slots.proofs.Slot.free.Kinds as free-kinds
+use Rattle.slots.proofs.Slot.free.Reads as free-reads
+use Rattle.slots.proofs.Slot.keeps_rules.Kinds as keeps-rules-kinds
+use Rattle.slots.proofs.Slot.keeps_rules.Reads as keeps-rules-reads
+use Rattle.slots.proofs.Slot.has_key.Kinds as has-key-kinds
+use Rattle.slots.proofs.Slot.has_key.Reads as has-key-reads
+use Rattle.slots.proofs.Slot.is_alike.Kinds as is-alike-kinds
+use Rattle.slots.proofs.Slot.is_alike.Reads as is-alike-reads
+
+pub free-one : One 0 free-kinds.ps free-kinds.r free-reads.Post
+free-one κs a x y v w p q = (p ∙ sym q, refl)
+
+pub free-free : Free 0 free-kinds.ps free-reads.Pre
+free-free κs a = tt
+
+pub keeps-rules-one : One 0 keeps-rules-kinds.ps keeps-rules-kinds.r keeps-rules-reads.Post
+keeps-rules-one κs a x y v w p q = (p ∙ sym q, refl)
+
+pub keeps-rules-free : Free 0 keeps-rules-kinds.ps keeps-rules-reads.Pre
+keeps-rules-free κs a = tt
+
+pub has-key-one : One 0 has-key-kinds.ps has-key-kinds.r has-key-reads.Post
+has-key-one κs a x y v w p q = (p ∙ sym q, refl)
+
+pub has-key-free : Free 0 has-key-kinds.ps has-key-reads.Pre
+has-key-free κs a = tt
+
+pub is-alike-one : One 0 is-alike-kinds.ps is-alike-kinds.r is-alike-reads.Post
+is-alike-one κs a x y v w p q = (p ∙ sym q, refl)
+
+pub is-alike-free : Free 0 is-alike-kinds.ps is-alike-reads.Pre
+is-alike-free κs a = tt

@@ -1,0 +1,32 @@
+-- Document 01, "Streams": a slot of the table, an open row with its key or a free row, and the rules that it keeps (40).
+use mathlib.Core.Bool.{Bool, false}
+use mathlib.Core.List.{[]}
+use Rattle.octets.specs.Words.{if_then_else_, _and_, no}
+use Rattle.keys.specs.declared.Key.{Key}
+use Rattle.keys.specs.Key.{sameKey, keepsKey, isNoKey, noKey}
+use Rattle.rows.specs.Row.{keepsRow, isNoRow, noRow}
+use Rattle.slots.specs.declared.Slot.{Slot}
+
+-- a free row is all zero
+
+abbrev pub freeSlot : Slot
+freeSlot = record { used = false; key = noKey; row = noRow }
+
+abbrev pub isFree : Slot → Bool
+isFree x = no (x .used)
+
+unfoldable pub keepsSlot : Slot → Bool
+keepsSlot x = if x .used then keepsKey (x .key) and keepsRow (x .row) else isNoKey (x .key) and isNoRow (x .row)
+
+-- the slot is open and has the key
+unfoldable pub hasKey : Key → Slot → Bool
+hasKey k x = x .used and sameKey k (x .key)
+
+-- what a list gives past its end
+abbrev pub pastSlot : Slot
+pastSlot =
+    record {
+      used = false;
+      key = record { originator = []; «originator_len» = 0; «stream_id» = []; «stream_id_len» = 0 };
+      row = record { expected = 0; clock = 0; «gap_start» = 0; count = 0; held = [] };
+    }

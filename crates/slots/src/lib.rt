@@ -1,0 +1,67 @@
+// Document 01, "Streams": a slot of the table, which is an open row with its key, or a free one, all zero.
+ghost use mathlib.Core.Path.{_≡_};
+ghost use Rattle.octets.specs.Words.{_and_};
+ghost use Rattle.slots.specs.Slot.{freeSlot, keepsSlot, hasKey};
+use keys::Key;
+use rows::Row;
+
+pub struct Slot {
+    pub used: bool,
+    pub key: Key,
+    pub row: Row,
+}
+
+impl Slot {
+    // A free row: all zero.
+    pub fn free() -> Slot
+        ensures { λ r. ⌜ r ≡ freeSlot ⌝ }
+    {
+        let key = keys::none();
+        let row = Row::none();
+        Slot {
+            used: false,
+            key: key,
+            row: row,
+        }
+    }
+
+    // Whether the slot keeps its rules (40).
+    pub fn keeps_rules(self) -> bool
+        ensures { λ r. ⌜ r ≡ keepsSlot self ⌝ }
+    {
+        let key = self.key;
+        let row = self.row;
+        if self.used {
+            if !keys::keeps_rules(key) {
+                return false;
+            }
+            return row.keeps_rules();
+        }
+        if !keys::is_none(key) {
+            return false;
+        }
+        row.is_none()
+    }
+
+    // Whether the slot is open and has the key.
+    pub fn has_key(self, key: Key) -> bool
+        ensures { λ r. ⌜ r ≡ hasKey key self ⌝ }
+    {
+        if !self.used {
+            return false;
+        }
+        let own = self.key;
+        keys::same(key, own)
+    }
+
+    // Whether the slot is open, and another has its key.
+    pub fn is_alike(self, other: Slot) -> bool
+        ensures { λ r. ⌜ r ≡ (self .used and hasKey (self .key) other) ⌝ }
+    {
+        if !self.used {
+            return false;
+        }
+        let key = self.key;
+        other.has_key(key)
+    }
+}
