@@ -81,7 +81,7 @@ fn put_event(out: &mut [u8], at: usize, event: Event, m: Line) -> usize {
         Event::Nothing => out::put_text(out, at, b" nothing"),
         Event::Offer(_) => put_offer(out, at, m),
         Event::Message(t) => put_received(out, at, t),
-        Event::End(reason) => put_end(out, at, reason),
+        Event::End(ending) => put_end(out, at, ending.reason),
     }
 }
 
