@@ -2,24 +2,24 @@
 -- than "nothing" and the session are those of the bytes used. So, however the peer's bytes are cut, a host that offers unused bytes again
 -- until an end sees the same; and for every stream there is such a host.
 use mathlib.Core.Path.{_≡_, refl, sym, ap, _∙_}
-use Prim.Native.Nat.{ℕ, _≤_, _<_}
+use Prim.Native.Nat.{ℕ, _≤_}
 use native.Mathlib.Omega.{arith}
-use mathlib.Core.Bool.{Bool, true, false}
+use mathlib.Core.Bool.{true, false}
 use mathlib.Core.Logic.{_⊎_, inl, inr}
 use mathlib.Core.List.{List, [], _∷_}
 use lib.ListN.{length}
 use borrow.Author.Tests.{eqb-true, eqb-false, le-ltb}
-use Rattle.octets.specs.Words.{if_then_else_, _or_, no, _<?_, _=?_}
+use Rattle.octets.specs.Words.{_or_, no, _<?_, _=?_}
 use Rattle.octets.proofs.Tests.{or-next}
 use Rattle.refusals.specs.Numbers.{longestPayload}
-use Rattle.machine.specs.Machine.{Fed, quiet, Out, Seen, run, seen}
-use Rattle.machine.proofs.Cuts.{used-some, calls-bytes, stream-seen, cut-freely, goes-through}
+use Rattle.machine.specs.Machine.{quiet, Out, run, seen}
+use Rattle.machine.proofs.Cuts.{used-some, calls-bytes, stream-seen, goes-through}
 use Rattle.talk.specs.declared.Session.{Session}
 use Rattle.talk.specs.Answer.{Happening}
 use Rattle.talk.specs.Talk.{nothing}
 use Rattle.session.specs.Feed.{feed}
 use Rattle.session.specs.Rules.{keepsSession}
-use Rattle.session.specs.Calls.{longestReply, Outcome, refused, went, stepOf}
+use Rattle.session.specs.Calls.{longestReply, Outcome, stepOf}
 use Rattle.session.proofs.Tests.{step-goes}
 use Rattle.exchange.specs.Host.{Lent, told, isClosed, stepOn, pieceOf, used, sees, Goes}
 use Rattle.exchange.proofs.Keeps.{on, step-keeps}
@@ -51,20 +51,20 @@ module _ (s : Session) (c : Lent) where
       (λ a. on Served (s .mode =? 3) _ _ (λ b. inr refl)
       (λ b. on Served (length (c .payload) <? longestPayload or c .room <? longestReply) _ _ (λ d. inr refl) (λ d. inl refl)))
 
--- THE THEOREM over any list of calls
-pub calls-are-bytes : (s : Session) (cs : List Lent) → keepsSession s ≡ true → sees s cs ≡ seen feed told s (used s cs)
-calls-are-bytes s cs o = calls-bytes feed nothing told refl stepOn pieceOf Ok keeps (λ s c o. serves s c) s cs o
+-- THE THEOREM over any list of calls, from any session
+pub calls-are-bytes : (s : Session) (cs : List Lent) → sees s cs ≡ seen feed told s (used s cs)
+calls-are-bytes s cs = calls-bytes feed nothing told refl stepOn pieceOf (λ x. Unit {0}) (λ x c o. tt) (λ x c o. serves x c) s cs tt
 
 -- two lists of calls that used the same bytes
-pub same-bytes : (s : Session) (cs ds : List Lent) → keepsSession s ≡ true → used s cs ≡ used s ds → sees s cs ≡ sees s ds
-same-bytes s cs ds o e = calls-are-bytes s cs o ∙ ap (seen feed told s) e ∙ sym (calls-are-bytes s ds o)
+pub same-bytes : (s : Session) (cs ds : List Lent) → used s cs ≡ used s ds → sees s cs ≡ sees s ds
+same-bytes s cs ds e = calls-are-bytes s cs ∙ ap (seen feed told s) e ∙ sym (calls-are-bytes s ds)
 
 -- a stream
-pub through-a-stream : (s : Session) (stream : List ℕ) (cs : List Lent) → keepsSession s ≡ true → Goes s stream cs → sees s cs ≡ seen feed told s stream
-through-a-stream s stream cs o t = stream-seen feed nothing told refl stepOn pieceOf Ok keeps (λ s c o. serves s c) isClosed rests s stream cs o t
+pub through-a-stream : (s : Session) (stream : List ℕ) (cs : List Lent) → Goes s stream cs → sees s cs ≡ seen feed told s stream
+through-a-stream s stream cs t = stream-seen feed nothing told refl stepOn pieceOf (λ x. Unit {0}) (λ x c o. tt) (λ x c o. serves x c) isClosed rests s stream cs tt t
 
-pub cut-independent : (s : Session) (stream : List ℕ) (cs ds : List Lent) → keepsSession s ≡ true → Goes s stream cs → Goes s stream ds → sees s cs ≡ sees s ds
-cut-independent s stream cs ds o p q = through-a-stream s stream cs o p ∙ sym (through-a-stream s stream ds o q)
+pub cut-independent : (s : Session) (stream : List ℕ) (cs ds : List Lent) → Goes s stream cs → Goes s stream ds → sees s cs ≡ sees s ds
+cut-independent s stream cs ds p q = through-a-stream s stream cs p ∙ sym (through-a-stream s stream ds q)
 
 -- there is such a host, whatever it lends at each call, as long as its buffers are not refused
 pub a-host : (payload : ℕ → List ℕ) (room : ℕ → ℕ) → ((n : ℕ) → 4096 ≤ length (payload n)) → ((n : ℕ) → 24 ≤ room n)

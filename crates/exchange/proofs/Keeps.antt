@@ -1,15 +1,14 @@
 -- THEOREM: a call keeps the session's rules, if it is handed a session that keeps them.
-use mathlib.Core.Path.{_≡_, refl, sym, ap, _∙_, subst}
+use mathlib.Core.Path.{_≡_, refl, sym, ap, _∙_}
 use Prim.Native.Nat.{ℕ, zero, suc, _+_, _≤_, _<_}
 use native.Mathlib.Omega.{arith}
-use native.Mathlib.Numerals.{add-one}
 use mathlib.Core.Bool.{Bool, true, false}
 use mathlib.Core.List.{List, []}
 use lib.ListN.{length, drop, getD, set, length-set}
 use lib.Seq.{drop-set-lt}
-use borrow.Author.Tests.{eq-eqb, ne-eqb, lt-ltb, le-leb, eqb-true, eqb-false, ltb-true, ltb-false, leb-true}
+use borrow.Author.Tests.{lt-ltb, le-leb, eqb-true, eqb-false, ltb-true, ltb-false}
 use Rattle.octets.specs.Words.{if_then_else_, _and_, _or_, no, every, _<?_, _≤?_, _=?_}
-use Rattle.octets.proofs.Tests.{and-left, and-right, and-both, if-yes, if-no, true-not-false}
+use Rattle.octets.proofs.Tests.{and-left, and-right, and-both, if-yes}
 use Rattle.octets.proofs.Lists.{drop-next}
 use Rattle.refusals.specs.Numbers.{lineMalformed, chkDiffers, formatD, payloadTooLong, longestPayload}
 use Rattle.field_rules.specs.Rules.{idIn}
@@ -18,25 +17,24 @@ use Rattle.envelope.specs.declared.Envelope.{Envelope}
 use Rattle.sha1.specs.declared.Sha1.{Sha1}
 use Rattle.sha1.specs.Machine.{fed, finished}
 use Rattle.sha1.specs.Id.{idNumber}
-use Rattle.line.specs.declared.Line.{Line}
 use Rattle.line.specs.declared.Reading.{Reading}
-use Rattle.line.specs.Reading.{idWord, restOf, isText, framed, valuesGood, wellFormed, chkRight, fieldsOf, lineOf, refusalOf, answered, readOf}
+use Rattle.line.specs.Reading.{restOf, isText, framed, valuesGood, wellFormed, chkRight, lineOf, refusalOf, answered, readOf}
 use Rattle.line_groups.specs.Rules.{deflated}
 use Rattle.line_groups.specs.Answers.{lenOf}
 use Rattle.tokens.specs.Tokens.{tokens}
 use Rattle.phrases.specs.declared.Kind.{Kind}
 use Rattle.phrases.specs.Lines.{kindOf, isData}
-use Rattle.machine.specs.Machine.{Fed, quiet, stop, run}
+use Rattle.machine.specs.Machine.{Fed}
 use Rattle.machine.proofs.Cuts.{okFed, run-keeps}
 use Rattle.talk.specs.declared.Terms.{Terms}
 use Rattle.talk.specs.declared.Session.{Session}
 use Rattle.talk.specs.Answer.{Happening}
 use Rattle.talk.specs.Sessions.{termsOf, keepsTerms, salted, listening, promised, receiving, closed, lineSoFar}
-use Rattle.talk.specs.Talk.{Turn, nothing, closing, offered, completed, heardAs, heard, dataHeard}
-use Rattle.session.specs.Feed.{turns, pushed, taken, obeyed, feedLine, feedPayload, feed}
+use Rattle.talk.specs.Talk.{Turn, nothing, offered, completed, heardAs, heard, dataHeard}
+use Rattle.session.specs.Feed.{pushed, taken, obeyed, feedLine, feedPayload, feed}
 use Rattle.session.specs.Rules.{keepsLine, keepsPayload, keepsSession}
 use Rattle.session.specs.Calls.{longestReply, Outcome, stepOf}
-use Rattle.session.proofs.Tests.{longest, Kept, kept, keep, line-rest, line-bound, payload-comes, payload-none, mode-low}
+use Rattle.session.proofs.Tests.{longest, Kept, kept, keep, line-rest, payload-comes, payload-none, mode-low}
 
 -- ---- the modes as they are entered
 

@@ -7,9 +7,9 @@ use native.Mathlib.Omega.{arith}
 use native.Mathlib.Decide.{decLe}
 use mathlib.Core.Bool.{Bool, true, false}
 use mathlib.Core.List.{List, [], _∷_, _++_, append-nil}
-use lib.ListN.{length, take, drop, getD, length-append, length-take, take-append-drop, List·getD-append}
+use lib.ListN.{length, take, drop, getD, length-append, take-append-drop, List·getD-append}
 use lib.Seq.{getD-append-add, getD-take, length-take-le, take-all, ext-getD}
-use borrow.Author.Tests.{eqb-true, eqb-false, ltb-true, ltb-false, lt-ltb, le-ltb, eq-eqb, ne-eqb}
+use borrow.Author.Tests.{eqb-true, eqb-false, ltb-false, lt-ltb, eq-eqb, ne-eqb}
 use Rattle.octets.specs.Words as words
 use Rattle.octets.specs.Words.{if_then_else_, _and_, _or_, _<?_, _=?_}
 use Rattle.octets.specs.Bytes.{placed}
@@ -19,7 +19,7 @@ use Rattle.refusals.specs.Numbers.{payloadTooLong, longestPayload}
 use Rattle.sha1.specs.declared.Salt.{Salt}
 use Rattle.sha1.specs.declared.Sha1.{Sha1}
 use Rattle.sha1.specs.Sha1.{sha1}
-use Rattle.sha1.specs.Machine.{fresh, fed, fedAll, finished}
+use Rattle.sha1.specs.Machine.{fedAll, finished}
 use Rattle.sha1.specs.Id.{saltBytes, idNumber, messageId, is}
 use Rattle.sha1.specs.Id as ids
 use Rattle.sha1.proofs.Feed.{parts}
@@ -29,15 +29,15 @@ use Rattle.line.specs.declared.Reading.{Reading}
 use Rattle.line.specs.Reading.{readOf}
 use Rattle.phrases.specs.declared.Kind.{Kind}
 use Rattle.phrases.specs.Lines.{kindOf, isData}
-use Rattle.machine.specs.Machine.{Fed, quiet, stop, Out, run}
+use Rattle.machine.specs.Machine.{Fed, Out, run}
 use Rattle.machine.proofs.Cuts.{onFed, run-leaves}
 use Rattle.talk.specs.declared.Terms.{Terms}
 use Rattle.talk.specs.declared.Session.{Session}
-use Rattle.talk.specs.Answer.{Happened, Happening}
+use Rattle.talk.specs.Answer.{Happening}
 use Rattle.talk.specs.Answer as what
-use Rattle.talk.specs.Sessions.{keepsTerms, salted, lineSoFar, listening, receiving}
-use Rattle.talk.specs.Talk.{Turn, nothing, message, goingOn, offered, completed, heardAs, heard, dataHeard}
-use Rattle.session.specs.Feed.{turns, pushed, obeyed, feedLine, feed}
+use Rattle.talk.specs.Sessions.{keepsTerms, salted, lineSoFar, listening}
+use Rattle.talk.specs.Talk.{Turn, nothing, message, offered, completed, heardAs, heard, dataHeard}
+use Rattle.session.specs.Feed.{obeyed, feed}
 use Rattle.session.specs.Rules.{keepsSession}
 use Rattle.session.specs.Calls.{longestReply, Outcome, refused, made, stored, went, stepOf}
 use Rattle.session.proofs.Runs.{received, run-payload, run-whole}

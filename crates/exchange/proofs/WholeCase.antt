@@ -34,7 +34,7 @@ said = refl
 pub whole-case : (room : ℕ) (cs : List Lent) → 24 ≤ room → Goes (openOf room .next) whoQuit cs → hears room cs ≡ whoQuitHeard
 whole-case room cs h g =
     let o = opens room h in
-    let t = through-a-stream listening whoQuit cs listening-keeps (subst (λ (s : Session). Goes s whoQuit cs) (o .0) g) in
+    let t = through-a-stream listening whoQuit cs (subst (λ (s : Session). Goes s whoQuit cs) (o .0) g) in
     (λ i. o .1 i ++ sees (o .0 i) cs .reply) ∙ ap (λ (x : Seen Session Happening). prompt ++ x .reply) t ∙ said
 
 pub whole-case-met : (cs : List Lent) × Goes (openOf 24 .next) whoQuit cs

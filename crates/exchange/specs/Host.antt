@@ -1,6 +1,5 @@
 -- A host of a session. At each call it lends a piece of the peer's bytes, any payload buffer, whatever it did to it, and any room for a reply.
-use Prim.Native.Nat.{ℕ, _≤_, _<_}
-use mathlib.Core.Path.{_≡_}
+use Prim.Native.Nat.{ℕ}
 use mathlib.Core.Bool.{Bool, true}
 use mathlib.Core.List.{List, [], _∷_, _++_}
 use lib.ListN.{length, take, getD}
