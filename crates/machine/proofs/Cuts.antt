@@ -1,6 +1,6 @@
 -- THEOREM: whatever calls a host makes, it sees what the machine does with the bytes that the calls used; so a host that offers unused bytes
 -- again sees the same however the peer's stream is cut, and whatever it lends.
-use Prim.Native.Nat.{ℕ, zero, suc, _+_, _-_, _≤_, _<_}
+use Prim.Native.Nat.{ℕ, zero, suc, _+_, _-_, _≤_}
 use native.Mathlib.Omega.{arith}
 use mathlib.Core.Path.{_≡_, refl, sym, ap, _∙_}
 use mathlib.Core.Bool.{Bool, true, false}

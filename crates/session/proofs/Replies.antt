@@ -1,5 +1,5 @@
 -- No reply is longer than 24 bytes; a reply that fits stands at the front of its buffer.
-use mathlib.Core.Path.{_≡_, refl, sym, ap, _∙_}
+use mathlib.Core.Path.{_≡_, refl, ap, _∙_}
 use Prim.Native.Nat.{ℕ, _+_, _≤_}
 use native.Mathlib.Omega.{arith}
 use mathlib.Core.Bool.{Bool, true, false}
@@ -23,8 +23,8 @@ use Rattle.phrases.specs.Lines.{kindOf, isData, tokenOf, tokenGood}
 use Rattle.phrases.specs.Replies.{LF, prompt, 'error', sends, errs, acks, bads, wrote}
 use Rattle.talk.specs.declared.Terms.{Terms}
 use Rattle.talk.specs.declared.Session.{Session}
-use Rattle.talk.specs.Sessions.{keepsTerms, salted, receiving, lineSoFar}
-use Rattle.talk.specs.Talk.{Turn, nothing, closing, offered, completed, heardAs, heard, dataHeard}
+use Rattle.talk.specs.Sessions.{keepsTerms, salted, lineSoFar}
+use Rattle.talk.specs.Talk.{Turn, offered, completed, heardAs, heard, dataHeard}
 use Rattle.session.specs.Feed.{obeyed}
 
 -- a reply that fits

@@ -1,16 +1,16 @@
 -- What one byte does, and a run of a payload's bytes taken at once.
-use mathlib.Core.Path.{_≡_, refl, sym, ap, _∙_}
-use Prim.Native.Nat.{ℕ, zero, suc, _+_, _-_, _≤_, _<_}
+use mathlib.Core.Path.{_≡_, sym, ap, _∙_}
+use Prim.Native.Nat.{ℕ, suc, _+_, _-_, _≤_, _<_}
 use native.Mathlib.Omega.{arith}
 use mathlib.Core.List.{List, [], _∷_, _++_}
-use lib.ListN.{length, drop, getD, set, drop-of-length-le}
+use lib.ListN.{length, drop, getD, drop-of-length-le}
 use borrow.Author.Tests.{eq-eqb, ne-eqb, lt-ltb, le-ltb}
 use Rattle.octets.proofs.Lists.{drop-next}
 use Rattle.sha1.specs.Machine.{fed, fedAll}
-use Rattle.machine.specs.Machine.{Fed, quiet, stop, Out, after, run}
+use Rattle.machine.specs.Machine.{Fed, quiet, after, run}
 use Rattle.talk.specs.declared.Session.{Session}
 use Rattle.talk.specs.Answer.{Happening}
-use Rattle.talk.specs.Talk.{Turn, nothing, closing, completed}
+use Rattle.talk.specs.Talk.{nothing, closing, completed}
 use Rattle.session.specs.Feed.{turns, pushed, obeyed, taken, feed}
 
 -- ---- a byte of a line, by what it is

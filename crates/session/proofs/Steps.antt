@@ -2,8 +2,7 @@
 use mathlib.Core.Path.{_≡_, refl, sym, ap, _∙_, subst}
 use Prim.Native.Nat.{ℕ, _+_, _-_, _≤_, _<_}
 use native.Mathlib.Omega.{arith}
-use native.Mathlib.Decide.{decLe}
-use mathlib.Core.List.{List, [], _++_}
+use mathlib.Core.List.{List, []}
 use lib.ListN.{length, take, drop, getD, take-append-drop}
 use lib.Seq.{length-take-le, take-all}
 use borrow.Author.Tests.{eq-eqb, ne-eqb}
@@ -15,7 +14,7 @@ use Rattle.line.specs.declared.Line.{Line}
 use Rattle.line.specs.Reading.{blankLine}
 use Rattle.machine.specs.Machine.{Out, run}
 use Rattle.talk.specs.declared.Session.{Session}
-use Rattle.talk.specs.Answer.{Happening, Happened, Telling}
+use Rattle.talk.specs.Answer.{Happening, Telling}
 use Rattle.talk.specs.Sessions.{closed, lineSoFar}
 use Rattle.talk.specs.Talk.{Turn, nothing, ended, closing, completed, heard, dataHeard, toldIn}
 use Rattle.session.specs.Answer as answer

@@ -7,21 +7,20 @@ use mathlib.Core.Bool.{Bool, true, false}
 use mathlib.Core.List.{List, []}
 use lib.ListN.{length, take, drop}
 use borrow.Author.Tests.{eq-eqb, ne-eqb, lt-ltb, le-ltb, le-leb, lt-leb, eqb-true, ltb-true, ltb-false, leb-true}
-use Rattle.octets.specs.Words.{if_then_else_, _and_, _or_, every, _<?_, _≤?_, _=?_}
+use Rattle.octets.specs.Words.{if_then_else_, _and_, _or_, _<?_, _≤?_, _=?_}
 use Rattle.octets.specs.Bytes.{front, placed, allZero}
 use Rattle.octets.proofs.Tests.{if-yes, if-no, and-left, and-right, and-both, and-next, and-not-left, no-true, no-false, true-not-false}
 use Rattle.refusals.specs.Numbers.{bufferTooShort, sessionClosed, stateBroken, longestPayload}
 use Rattle.field_rules.specs.Rules.{idIn}
 use Rattle.phrases.specs.Replies.{prompt, wrote}
-use Rattle.machine.specs.Machine.{Out, run}
+use Rattle.machine.specs.Machine.{run}
 use Rattle.talk.specs.declared.Session.{Session}
-use Rattle.talk.specs.Answer.{Happening}
 use Rattle.talk.specs.Sessions.{keepsTerms, listening, closed}
 use Rattle.talk.specs.Talk.{nothing}
 use Rattle.session.specs.Answer as answer
 use Rattle.session.specs.Feed.{feed}
 use Rattle.session.specs.Rules.{keepsLine, keepsPayload, keepsSession}
-use Rattle.session.specs.Calls.{longestReply, Outcome, refused, made, stored, went, stepOf, openOf, openReply}
+use Rattle.session.specs.Calls.{longestReply, Outcome, refused, made, went, stepOf, openOf, openReply}
 use Rattle.session.specs.Runs.{Answers}
 use Rattle.session.proofs.Replies.{at-front}
 

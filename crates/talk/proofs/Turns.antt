@@ -1,8 +1,8 @@
 -- What the code says and returns is the turn that the definitions have.
-use mathlib.Core.Path.{_≡_, refl, sym, ap, _∙_, subst}
+use mathlib.Core.Path.{_≡_, sym, ap, _∙_, subst}
 use Prim.Native.Nat.{ℕ}
-use mathlib.Core.Bool.{Bool, true, false}
-use mathlib.Core.List.{List, [], _++_}
+use mathlib.Core.Bool.{true, false}
+use mathlib.Core.List.{List, []}
 use lib.ListN.{replicate}
 use lib.IntN.{ℤ}
 use borrow.Author.Tests.{eq-eqb, ne-eqb}
@@ -22,11 +22,11 @@ use Rattle.line.specs.declared.Reading.{Reading}
 use Rattle.line.specs.Reading.{blankLine, readOf}
 use Rattle.phrases.specs.declared.Kind.{Kind}
 use Rattle.phrases.specs.Lines.{kindOf, isData}
-use Rattle.phrases.specs.Replies.{sends, acks, bads, wrote}
+use Rattle.phrases.specs.Replies.{acks, bads, wrote}
 use Rattle.talk.specs.declared.Terms.{Terms}
 use Rattle.talk.specs.declared.Session.{Session}
 use Rattle.talk.specs.Answer.{Happened, Happening, Telling}
-use Rattle.talk.specs.Sessions.{termsOf, keepsTerms, salted, listening, promised, receiving, closed}
+use Rattle.talk.specs.Sessions.{termsOf, keepsTerms, salted, listening, receiving}
 use Rattle.talk.specs.Talk.{Turn, nothing, message, closing, goingOn, offered, heardAs, heard, completed, dataHeard, toldIn}
 
 -- what was said, and what the reply buffer then holds, are the turn's

@@ -8,7 +8,6 @@ use Rattle.octets.specs.Words.{_and_, _≤?_}
 use Rattle.refusals.specs.Numbers.{longestPayload}
 use Rattle.field_rules.specs.Rules.{idIn}
 use Rattle.sha1.specs.declared.Sha1.{Sha1}
-use Rattle.sha1.specs.declared.Salt.{Salt}
 use Rattle.sha1.specs.Machine.{fresh, fedAll}
 use Rattle.sha1.specs.Id.{saltBytes}
 use Rattle.line.specs.declared.Line.{Line}
