@@ -113,7 +113,7 @@ fn put_event(a: Answer, event: Event, offered: Line) -> Answer {
         Event::Nothing => a.text(b" nothing"),
         Event::Offer(_) => fields::put_line(a.text(b" offer"), offered),
         Event::Message(t) => put_received(a, t),
-        Event::End(reason) => a.keyed(b" end ", reason as u32),
+        Event::End(ending) => a.keyed(b" end ", ending.reason as u32),
     }
 }
 

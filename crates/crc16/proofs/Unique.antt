@@ -1,16 +1,8 @@
 -- Every public function leaves one outcome and asks nothing.
 use mathlib.Core.Path.{refl, sym, _∙_}
 use Rattle.octets.specs.Unique.{One, Free}
-use Rattle.crc16.proofs.feed.Kinds as feed-kinds
-use Rattle.crc16.proofs.feed.Reads as feed-reads
 use Rattle.crc16.proofs.crc.Kinds as crc-kinds
 use Rattle.crc16.proofs.crc.Reads as crc-reads
-
-pub feed-one : One 1 feed-kinds.ps feed-kinds.r feed-reads.Post
-feed-one κs a x y v w p q = (p ∙ sym q, refl)
-
-pub feed-free : Free 1 feed-kinds.ps feed-reads.Pre
-feed-free κs a = tt
 
 pub crc-one : One 1 crc-kinds.ps crc-kinds.r crc-reads.Post
 crc-one κs a x y v w p q = (p ∙ sym q, refl)

@@ -4,10 +4,10 @@ ghost use Prim.Native.Nat.{_<_};
 ghost use Rattle.crc16.specs.Crc.{bitsFeed, bits, crcFeed, crc16};
 
 // The register before the first byte.
-pub const START: u16 = 0xFFFF;
+const START: u16 = 0xFFFF;
 
 // The register after more bytes.
-pub fn feed(crc: u16, s: &[u8]) -> u16
+fn feed(crc: u16, s: &[u8]) -> u16
     ensures { λ r. ⌜ r ≡ crcFeed crc (now (s .entry)) ⌝ }
 {
     let mut register = crc;

@@ -1,37 +1,80 @@
--- THEOREMS: however the peer's bytes are cut, a host that offers unused bytes again until an end has the same replies, the same happenings
--- other than "nothing", the same payload bytes and the same session; and a step of a piece that is not empty uses a byte.
-use mathlib.Core.Path.{_≡_, refl}
-use Prim.Native.Nat.{ℕ, _≤_, _<_}
-use mathlib.Core.Bool.{Bool, true, false}
+-- THEOREMS: whatever calls a host makes, refused ones and empty pieces among them, whatever buffers it lends, the replies, the happenings other
+-- than "nothing" and the session are those of the bytes used. So, however the peer's bytes are cut, a host that offers unused bytes again
+-- until an end sees the same; and for every stream there is such a host.
+use mathlib.Core.Path.{_≡_, refl, sym, ap, _∙_}
+use Prim.Native.Nat.{ℕ, _≤_}
+use native.Mathlib.Omega.{arith}
+use mathlib.Core.Bool.{true, false}
+use mathlib.Core.Logic.{_⊎_, inl, inr}
 use mathlib.Core.List.{List, [], _∷_}
 use lib.ListN.{length}
-use borrow.Author.Tests.{eqb-true, eqb-false}
-use Rattle.octets.specs.Words.{_=?_}
-use Rattle.machine.specs.Machine.{Fed, quiet, Out, run, joined, calls, host}
-use Rattle.machine.proofs.Cuts.{run-keeps, used-some, cut-freely}
-use Rattle.talk.specs.declared.Event.{Event}
+use borrow.Author.Tests.{eqb-true, eqb-false, le-ltb}
+use Rattle.octets.specs.Words.{_or_, no, _<?_, _=?_}
+use Rattle.octets.proofs.Tests.{or-next}
+use Rattle.refusals.specs.Numbers.{longestPayload}
+use Rattle.machine.specs.Machine.{quiet, Out, run, seen}
+use Rattle.machine.proofs.Cuts.{used-some, calls-bytes, stream-seen, goes-through}
 use Rattle.talk.specs.declared.Session.{Session}
-use Rattle.talk.specs.Talk.{Happening, nothing}
-use Rattle.session.specs.Feed.{Both, both, feed}
+use Rattle.talk.specs.Answer.{Happening}
+use Rattle.talk.specs.Talk.{nothing}
+use Rattle.session.specs.Feed.{feed}
 use Rattle.session.specs.Rules.{keepsSession}
-use Rattle.session.specs.Calls.{Outcome, went, stepOf}
+use Rattle.session.specs.Calls.{longestReply, Outcome, stepOf}
 use Rattle.session.proofs.Tests.{step-goes}
-use Rattle.exchange.specs.Host.{Ok, told, isClosed, stepOn}
-use Rattle.exchange.proofs.Keeps.{feed-ok}
+use Rattle.exchange.specs.Host.{Lent, told, isClosed, stepOn, pieceOf, used, sees, Goes}
+use Rattle.exchange.proofs.Keeps.{on, step-keeps}
 
-rests : (x : Both) (b : ℕ) → isClosed x ≡ true → feed x b ≡ quiet x
+abbrev Ok : Session → Type 0
+Ok s = keepsSession s ≡ true
+
+rests : (s : Session) (b : ℕ) → isClosed s ≡ true → feed s b ≡ quiet s
 unfolding feed
-rests x b h = rw (eqb-true (x .session .mode) 3 h)
+rests s b h = rw (eqb-true (s .mode) 3 h)
 
-goes : (room : ℕ) → 24 ≤ room → (x : Both) (piece : List ℕ) → Ok x → isClosed x ≡ false → stepOn room x piece ≡ run feed nothing 0 x piece
-goes room h x piece o c = rw (step-goes (x .session) piece (x .payload) room (o .good) (eqb-false _ _ c) (o .room) h)
+keeps : (s : Session) (c : Lent) → Ok s → Ok (stepOn s c .state)
+keeps s c o = step-keeps s (c .piece) (c .payload) (c .room) o
 
--- however the stream is cut, and whatever reply buffers are lent
-pub cut-independent : (room m n : ℕ) (x : Both) (ps qs : List (List ℕ)) → 24 ≤ room → Ok x → calls ps < m → calls qs < n → joined ps ≡ joined qs
-    → host (stepOn room) told isClosed m x ps ≡ host (stepOn room) told isClosed n x qs
-cut-independent room m n x ps qs h o p q e =
-    cut-freely feed nothing told refl (stepOn room) isClosed Ok rests (run-keeps feed nothing Ok feed-ok) (goes room h) m n x ps qs o p q e
+goes : (s : Session) (c : Lent) → Ok s → isClosed s ≡ false → 4096 ≤ length (c .payload) → 24 ≤ c .room → stepOn s c ≡ run feed nothing 0 s (c .piece)
+goes s c o d p r = rw (step-goes s (c .piece) (c .payload) (c .room) o (eqb-false _ _ d) (or-next _ _ (le-ltb _ _ p) ∙ le-ltb _ _ r))
 
--- the host's loop ends
-pub uses-a-byte : (room b : ℕ) (x : Both) (bs : List ℕ) → 24 ≤ room → Ok x → isClosed x ≡ false → 1 ≤ stepOn room x (b ∷ bs) .used
-uses-a-byte room b x bs h o c = rw (goes room h x (b ∷ bs) o c) (used-some feed nothing 0 x b bs)
+-- a call feeds its piece, or is refused and leaves everything as it was
+module _ (s : Session) (c : Lent) where
+  abbrev Served : Outcome → Type 0
+  Served x =
+      (_≡_ {A = Out Session Happening} (record { used = x .told .used; state = x .told .next; reply = x .reply; happened = x .told .happening }) (run feed nothing 0 s (c .piece)))
+      ⊎ (_≡_ {A = Out Session Happening} (record { used = x .told .used; state = x .told .next; reply = x .reply; happened = x .told .happening }) (record { used = 0; state = s; reply = []; happened = nothing }))
+
+  pub serves : Served (stepOf s (c .piece) (c .payload) (c .room))
+  unfolding stepOf
+  serves =
+      on Served (no (keepsSession s)) _ _ (λ a. inr refl)
+      (λ a. on Served (s .mode =? 3) _ _ (λ b. inr refl)
+      (λ b. on Served (length (c .payload) <? longestPayload or c .room <? longestReply) _ _ (λ d. inr refl) (λ d. inl refl)))
+
+-- THE THEOREM over any list of calls, from any session
+pub calls-are-bytes : (s : Session) (cs : List Lent) → sees s cs ≡ seen feed told s (used s cs)
+calls-are-bytes s cs = calls-bytes feed nothing told refl stepOn pieceOf (λ x. Unit {0}) (λ x c o. tt) (λ x c o. serves x c) s cs tt
+
+-- two lists of calls that used the same bytes
+pub same-bytes : (s : Session) (cs ds : List Lent) → used s cs ≡ used s ds → sees s cs ≡ sees s ds
+same-bytes s cs ds e = calls-are-bytes s cs ∙ ap (seen feed told s) e ∙ sym (calls-are-bytes s ds)
+
+-- a stream
+pub through-a-stream : (s : Session) (stream : List ℕ) (cs : List Lent) → Goes s stream cs → sees s cs ≡ seen feed told s stream
+through-a-stream s stream cs t = stream-seen feed nothing told refl stepOn pieceOf (λ x. Unit {0}) (λ x c o. tt) (λ x c o. serves x c) isClosed rests s stream cs tt t
+
+pub cut-independent : (s : Session) (stream : List ℕ) (cs ds : List Lent) → Goes s stream cs → Goes s stream ds → sees s cs ≡ sees s ds
+cut-independent s stream cs ds p q = through-a-stream s stream cs p ∙ sym (through-a-stream s stream ds q)
+
+-- there is such a host, whatever it lends at each call, as long as its buffers are not refused
+pub a-host : (payload : ℕ → List ℕ) (room : ℕ → ℕ) → ((n : ℕ) → 4096 ≤ length (payload n)) → ((n : ℕ) → 24 ≤ room n)
+    → (s : Session) (stream : List ℕ) → keepsSession s ≡ true → (cs : List Lent) × Goes s stream cs
+a-host payload room p r s stream o =
+    goes-through feed nothing told refl stepOn pieceOf Ok keeps (λ s c o. serves s c) isClosed rests
+    (λ n l. record { piece = l; payload = payload n; room = room n }) (λ n l. refl)
+    (λ n s l o d. goes s (record { piece = l; payload = payload n; room = room n }) o d (p n) (r n)) (length stream) s stream o (omega arith)
+
+-- and its loop ends: a call that is not refused uses a byte of a piece that has one
+pub uses-a-byte : (s : Session) (b : ℕ) (bs payload : List ℕ) (room : ℕ) → keepsSession s ≡ true → isClosed s ≡ false → 4096 ≤ length payload → 24 ≤ room
+    → 1 ≤ stepOn s (record { piece = b ∷ bs; payload = payload; room = room }) .used
+uses-a-byte s b bs payload room o d p r = rw (goes s (record { piece = b ∷ bs; payload = payload; room = room }) o d p r) (used-some feed nothing 0 s b bs)

@@ -1,41 +1,40 @@
 -- THEOREM: a call keeps the session's rules, if it is handed a session that keeps them.
-use mathlib.Core.Path.{_≡_, refl, sym, ap, _∙_, subst}
+use mathlib.Core.Path.{_≡_, refl, sym, ap, _∙_}
 use Prim.Native.Nat.{ℕ, zero, suc, _+_, _≤_, _<_}
 use native.Mathlib.Omega.{arith}
-use native.Mathlib.Numerals.{add-one}
 use mathlib.Core.Bool.{Bool, true, false}
 use mathlib.Core.List.{List, []}
 use lib.ListN.{length, drop, getD, set, length-set}
 use lib.Seq.{drop-set-lt}
-use borrow.Author.Tests.{eq-eqb, ne-eqb, lt-ltb, le-leb, eqb-true, eqb-false, ltb-true, ltb-false, leb-true}
+use borrow.Author.Tests.{lt-ltb, le-leb, eqb-true, eqb-false, ltb-true, ltb-false}
 use Rattle.octets.specs.Words.{if_then_else_, _and_, _or_, no, every, _<?_, _≤?_, _=?_}
-use Rattle.octets.proofs.Tests.{and-left, and-right, and-both, if-yes, if-no, true-not-false}
+use Rattle.octets.proofs.Tests.{and-left, and-right, and-both, if-yes}
 use Rattle.octets.proofs.Lists.{drop-next}
 use Rattle.refusals.specs.Numbers.{lineMalformed, chkDiffers, formatD, payloadTooLong, longestPayload}
-use Rattle.envelope.specs.Rules.{idIn, envelope}
+use Rattle.field_rules.specs.Rules.{idIn}
+use Rattle.envelope.specs.Rules.{envelope}
 use Rattle.envelope.specs.declared.Envelope.{Envelope}
 use Rattle.sha1.specs.declared.Sha1.{Sha1}
 use Rattle.sha1.specs.Machine.{fed, finished}
 use Rattle.sha1.specs.Id.{idNumber}
-use Rattle.line.specs.declared.Line.{Line}
 use Rattle.line.specs.declared.Reading.{Reading}
-use Rattle.line.specs.Reading.{idWord, restOf, isText, framed, valuesGood, wellFormed, chkRight, fieldsOf, lineOf, refusalOf, answered, readOf}
+use Rattle.line.specs.Reading.{restOf, isText, framed, valuesGood, wellFormed, chkRight, lineOf, refusalOf, answered, readOf}
 use Rattle.line_groups.specs.Rules.{deflated}
 use Rattle.line_groups.specs.Answers.{lenOf}
 use Rattle.tokens.specs.Tokens.{tokens}
 use Rattle.phrases.specs.declared.Kind.{Kind}
 use Rattle.phrases.specs.Lines.{kindOf, isData}
-use Rattle.machine.specs.Machine.{Fed, quiet, stop, run}
+use Rattle.machine.specs.Machine.{Fed}
 use Rattle.machine.proofs.Cuts.{okFed, run-keeps}
 use Rattle.talk.specs.declared.Terms.{Terms}
 use Rattle.talk.specs.declared.Session.{Session}
-use Rattle.talk.specs.Sessions.{termsOf, salted, listening, promised, receiving, closed, lineSoFar}
-use Rattle.talk.specs.Talk.{Happening, Turn, nothing, closing, offered, completed, heardAs, heard, dataHeard}
-use Rattle.session.specs.Feed.{Both, both, turns, pushed, taken, obeyed, feedLine, feedPayload, feed}
-use Rattle.session.specs.Rules.{keepsLine, keepsTerms, keepsPayload, keepsSession}
-use Rattle.exchange.specs.Host.{Ok}
+use Rattle.talk.specs.Answer.{Happening}
+use Rattle.talk.specs.Sessions.{termsOf, keepsTerms, salted, listening, promised, receiving, closed, lineSoFar}
+use Rattle.talk.specs.Talk.{Turn, nothing, offered, completed, heardAs, heard, dataHeard}
+use Rattle.session.specs.Feed.{pushed, taken, obeyed, feedLine, feedPayload, feed}
+use Rattle.session.specs.Rules.{keepsLine, keepsPayload, keepsSession}
 use Rattle.session.specs.Calls.{longestReply, Outcome, stepOf}
-use Rattle.session.proofs.Tests.{Kept, kept, keep, line-short, line-bound, payload-comes, payload-none, mode-low}
+use Rattle.session.proofs.Tests.{longest, Kept, kept, keep, line-rest, payload-comes, payload-none, mode-low}
 
 -- ---- the modes as they are entered
 
@@ -121,7 +120,7 @@ completed-keeps t h = by-test (idNumber (finished h) =? t .id) _ _ listening-kee
 
 data-keeps : (t : Terms) (s : List ℕ) → keepsTerms t ≡ true → keepsSession (dataHeard t s .next) ≡ true
 unfolding dataHeard
-data-keeps t s k = by-test (isData (t .id) s) _ _ (go (t .len =? 0) refl) closed-keeps
+data-keeps t s k = by-test (keepsTerms t and isData (t .id) s) _ _ (go (t .len =? 0) refl) closed-keeps
   where
     go : (b : Bool) → (t .len =? 0) ≡ b → keepsSession ((if b then completed t (salted t) else record { reply = []; happening = nothing; next = receiving t }) .next) ≡ true
     go true e = completed-keeps t (salted t)
@@ -144,11 +143,14 @@ pushed-keeps s b k m h =
       mode = k .mode;
       long = length-set (s .line) (s .«line_len») b ∙ k .long;
       line =
-          line-short (pushed s b) (omega arith) (omega arith)
-          ∙ zeros-next (s .line) (s .«line_len») b (omega (arith, k .long)) (sym (line-short s (omega arith) (omega arith)) ∙ k .line);
+          line-rest (pushed s b) (omega (arith, roomy))
+          ∙ zeros-next (s .line) (s .«line_len») b (omega (arith, k .long)) (sym (line-rest s (omega (arith, roomy))) ∙ k .line);
       terms = k .terms;
       payload = payload-none (pushed s b) (λ e. omega arith) ∙ sym (payload-none s (λ e. omega arith)) ∙ k .payload;
     })
+  where
+    roomy : longest (s .mode) ≡ 512
+    roomy = if-yes _ _ _ (lt-ltb (s .mode) 2 (omega arith))
 
 taken-keeps : (s : Session) (b : ℕ) → Kept s → s .mode ≡ 2 → s .got + 1 < s .terms .len → keepsSession (taken s b) ≡ true
 unfolding keepsLine
@@ -156,46 +158,37 @@ taken-keeps s b k m h =
     keep (taken s b) (record { mode = k .mode; long = k .long; line = k .line; terms = k .terms; payload = payload-comes (taken s b) m ∙ lt-ltb (s .got + 1) (s .terms .len) h })
 
 -- what holds of both arms, each under its test, holds of the choice
-on : {A : Type 0} (P : A → Type 0) (t : Bool) (a b : A) → (t ≡ true → P a) → (t ≡ false → P b) → P (if t then a else b)
+pub on : {A : Type 0} (P : A → Type 0) (t : Bool) (a b : A) → (t ≡ true → P a) → (t ≡ false → P b) → P (if t then a else b)
 on P true a b f g = f refl
 on P false a b f g = g refl
 
-abbrev Okay : Fed Both Happening → Type 0
-Okay = okFed feed nothing Ok
+abbrev Keeps : Session → Type 0
+Keeps s = keepsSession s ≡ true
 
-line-ok : (s : Session) (pl : List ℕ) (b : ℕ) → Kept s → 4096 ≤ length pl → s .mode ≤ 1 → Okay (feedLine s pl b)
-line-ok s pl b k r m =
-    on Okay (b =? 10) _ _ (λ e. record { good = obeyed-keeps s k; room = r })
-    (λ e. on Okay (s .«line_len» <? 512) _ _ (λ h. record { good = pushed-keeps s b k m (ltb-true _ _ h); room = r }) (λ h. record { good = closed-keeps; room = r }))
+abbrev Okay : Fed Session Happening → Type 0
+Okay = okFed feed nothing Keeps
 
-payload-ok : (s : Session) (pl : List ℕ) (b : ℕ) → Kept s → 4096 ≤ length pl → s .mode ≡ 2 → Okay (feedPayload s pl b)
-payload-ok s pl b k r m =
-    let w : 4096 ≤ length (set pl (s .got) b) = rw length-set r in
-    on Okay (s .got + 1 <? s .terms .len) _ _ (λ h. record { good = taken-keeps s b k m (ltb-true _ _ h); room = w })
-    (λ h. record { good = completed-keeps (s .terms) (fed (s .hash) b); room = w })
+line-ok : (s : Session) (b : ℕ) → Kept s → s .mode ≤ 1 → Okay (feedLine s b)
+line-ok s b k m = on Okay (b =? 10) _ _ (λ e. obeyed-keeps s k) (λ e. on Okay (s .«line_len» <? 512) _ _ (λ h. pushed-keeps s b k m (ltb-true _ _ h)) (λ h. closed-keeps))
 
-pub feed-ok : (x : Both) (b : ℕ) → Ok x → okFed feed nothing Ok (feed x b)
+payload-ok : (s : Session) (b : ℕ) → Kept s → s .mode ≡ 2 → Okay (feedPayload s b)
+payload-ok s b k m = on Okay (s .got + 1 <? s .terms .len) _ _ (λ h. taken-keeps s b k m (ltb-true _ _ h)) (λ h. completed-keeps (s .terms) (fed (s .hash) b))
+
+feed-ok : (s : Session) (b : ℕ) → Keeps s → Okay (feed s b)
 unfolding feed
-feed-ok x b o =
-    let k = kept (x .session) (o .good) in
-    on Okay (x .session .mode =? 2) _ _ (λ m. payload-ok (x .session) (x .payload) b k (o .room) (eqb-true _ _ m))
-    (λ n. on Okay (x .session .mode =? 3) _ _ (λ c. o) (λ c. line-ok (x .session) (x .payload) b k (o .room) (mode-low (x .session) k (eqb-false _ _ c) (eqb-false _ _ n))))
+feed-ok s b o =
+    let k = kept s o in
+    on Okay (s .mode =? 2) _ _ (λ m. payload-ok s b k (eqb-true _ _ m))
+    (λ n. on Okay (s .mode =? 3) _ _ (λ c. o) (λ c. line-ok s b k (mode-low s k (eqb-false _ _ c) (eqb-false _ _ n))))
 
 -- ---- THE THEOREM
 
-pub run-ok : (k : ℕ) (x : Both) (piece : List ℕ) → Ok x → Ok (run feed nothing k x piece .state)
-run-ok = run-keeps feed nothing Ok feed-ok
-
 abbrev Keeping : Outcome → Type 0
-Keeping o = keepsSession (o .answer .session) ≡ true
+Keeping o = keepsSession (o .told .next) ≡ true
 
-or-first : (a b : Bool) → a or b ≡ false → a ≡ false
-or-first true b e = e
-or-first false b e = refl
-
-pub step-keeps : (s : Session) (piece pl : List ℕ) (room : ℕ) → keepsSession s ≡ true → keepsSession (stepOf s piece pl room .answer .session) ≡ true
+pub step-keeps : (s : Session) (piece pl : List ℕ) (room : ℕ) → keepsSession s ≡ true → keepsSession (stepOf s piece pl room .told .next) ≡ true
 unfolding stepOf
 step-keeps s piece pl room e =
     on Keeping (no (keepsSession s)) _ _ (λ a. e)
     (λ a. on Keeping (s .mode =? 3) _ _ (λ b. e)
-    (λ b. on Keeping (length pl <? longestPayload or room <? longestReply) _ _ (λ c. e) (λ c. run-ok 0 (both s pl) piece (record { good = e; room = ltb-false _ _ (or-first _ _ c) }) .good)))
+    (λ b. on Keeping (length pl <? longestPayload or room <? longestReply) _ _ (λ c. e) (λ c. run-keeps feed nothing Keeps feed-ok 0 s piece e)))

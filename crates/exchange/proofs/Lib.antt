@@ -1,4 +1,4 @@
--- What the session's promises come to: the rules are kept, cuts make no difference, a message has the right id; the whole case.
+-- What the session's promises come to: the rules are kept, cuts and buffers make no difference, a message has the right id; the whole case.
 pub mod Keeps
 pub mod Cuts
 pub mod Messages

@@ -1,16 +1,12 @@
--- Document 01, "The receiving session": the whole case, and the exchange of the protocol page with a true id.
+-- Document 01, "The receiving session": the whole case.
 use Prim.Native.Nat.{ℕ}
 use mathlib.Core.List.{List, [], _∷_, _++_}
-use lib.ListN.{replicate}
-use Rattle.phrases.specs.Replies.{prompt}
-use Rattle.machine.specs.Machine.{seen}
-use Rattle.talk.specs.Sessions.{listening}
-use Rattle.session.specs.Feed.{both, feed}
-use Rattle.exchange.specs.Host.{told}
+use Rattle.session.specs.Calls.{openOf, openReply}
+use Rattle.exchange.specs.Host.{Lent, sees}
 
--- what a peer hears in all, from the opening on
-abbrev pub hears : List ℕ → List ℕ
-hears input = prompt ++ seen feed told (both listening (replicate 4 0)) input .reply
+-- what a peer hears in all: the reply of an opening with this room, then those of the calls
+abbrev pub hears : ℕ → List Lent → List ℕ
+hears room cs = openReply room ++ sees (openOf room .next) cs .reply
 
 -- `who` LF `quit` LF, and `DAPPSv1>` LF `eh?` LF `DAPPSv1>` LF `bye` LF
 abbrev pub whoQuit : List ℕ

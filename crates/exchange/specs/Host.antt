@@ -1,50 +1,75 @@
--- A session as a host has it: with its own payload buffer, and a reply buffer of `room` bytes.
-use Prim.Native.Nat.{ℕ, _≤_}
-use mathlib.Core.Path.{_≡_}
+-- A host of a session. At each call it lends a piece of the peer's bytes, any payload buffer, whatever it did to it, and any room for a reply.
+use Prim.Native.Nat.{ℕ}
 use mathlib.Core.Bool.{Bool, true}
-use mathlib.Core.List.{List, [], _∷_}
-use lib.ListN.{length}
-use Rattle.octets.specs.Words.{_=?_}
-use Rattle.machine.specs.Machine.{Out}
-use Rattle.talk.specs.declared.Event.{Event}
-use Rattle.talk.specs.Talk.{Happening}
-use Rattle.session.specs.Feed.{Both, both}
-use Rattle.session.specs.Rules.{keepsSession}
+use mathlib.Core.List.{List, [], _∷_, _++_}
+use lib.ListN.{length, take, getD}
+use Rattle.octets.specs.Words.{if_then_else_, _and_, _<?_, _=?_}
+use Rattle.machine.specs.Machine.{Out, Seen}
+use Rattle.machine.specs.Hosts.{bytesUsed, seenBy, Through}
+use Rattle.talk.specs.declared.Session.{Session}
+use Rattle.talk.specs.Answer.{Happened, Happening}
+use Rattle.talk.specs.Answer as what
+use Rattle.talk.specs.Sessions.{listening}
 use Rattle.session.specs.Calls.{Outcome, stepOf}
 
--- a session that keeps its rules, and a buffer that holds any payload
-pub record Ok (x : Both) : Type 0 where
-  pub good : keepsSession (x .session) ≡ true
-  pub room : 4096 ≤ length (x .payload)
+pub record Lent : Type 0 where
+  pub piece : List ℕ
+  pub payload : List ℕ
+  pub room : ℕ
+
+abbrev pub call : Session → Lent → Outcome
+call s c = stepOf s (c .piece) (c .payload) (c .room)
+
+-- ---- what is seen of the calls
 
 -- what the host notes of a step: all but "nothing"
-abbrev pub toldOf : Happening → Event → List Happening
-toldOf h Event.Nothing = []
-toldOf h (Event.Offer t) = h ∷ []
-toldOf h (Event.Message t) = h ∷ []
-toldOf h (Event.End n) = h ∷ []
+abbrev pub toldOf : Happening → Happened → List Happening
+toldOf h what.nothing = []
+toldOf h (what.offer t) = h ∷ []
+toldOf h (what.message t) = h ∷ []
+toldOf h (what.ended n) = h ∷ []
 
 abbrev pub told : Happening → List Happening
-told h = toldOf h (h .event)
+told h = toldOf h (h .what)
 
-abbrev pub isClosed : Both → Bool
-isClosed x = x .session .mode =? 3
+abbrev pub isClosed : Session → Bool
+isClosed s = s .mode =? 3
 
--- a step as the host sees it: with its own payload buffer, and a reply buffer of `room` bytes
-abbrev pub seenOf : Outcome → Out Both Happening
-seenOf o = record {
-  used = o .answer .used;
-  state = both (o .answer .session) (o .payload);
-  reply = o .reply;
-  happened = record { event = o .answer .event; line = o .answer .line };
+abbrev pub stepOn : Session → Lent → Out Session Happening
+stepOn s c = record { used = call s c .told .used; state = call s c .told .next; reply = call s c .reply; happened = call s c .told .happening }
+
+abbrev pub pieceOf : Lent → List ℕ
+pieceOf c = c .piece
+
+-- the bytes that calls used; the session, replies and happenings that they came to; a host that goes through a stream
+abbrev pub used : Session → List Lent → List ℕ
+used = bytesUsed stepOn pieceOf
+
+abbrev pub sees : Session → List Lent → Seen Session Happening
+sees = seenBy stepOn pieceOf told
+
+abbrev pub Goes : Session → List ℕ → List Lent → Type 0
+Goes = Through stepOn pieceOf isClosed told
+
+-- ---- what the host has between two calls: the session; of the payload that comes, or has just come, the bytes received; the payload buffer
+-- as the last call left it; and at which places every buffer lent since their byte came had what the call before left
+pub record Held : Type 0 where
+  pub session : Session
+  pub received : List ℕ
+  pub buffer : List ℕ
+  pub alone : ℕ → Bool
+
+abbrev pub atFirst : Held
+atFirst = record { session = listening; received = []; buffer = []; alone = λ i. true }
+
+abbrev pub after : Held → Lent → Held
+after h c = record {
+  session = call (h .session) c .told .next;
+  received = if h .session .mode =? 2 then h .received ++ take (call (h .session) c .told .used) (c .piece) else [];
+  buffer = call (h .session) c .payload;
+  alone = λ i. if i <? length (h .received) then h .alone i and getD (c .payload) i 0 =? getD (h .buffer) i 0 else true;
 }
 
-abbrev pub stepOn : ℕ → Both → List ℕ → Out Both Happening
-stepOn room x piece = seenOf (stepOf (x .session) piece (x .payload) room)
-
--- a message came
-abbrev pub IsMessage : Event → Type 0
-IsMessage Event.Nothing = ⊥
-IsMessage (Event.Offer t) = ⊥
-IsMessage (Event.Message t) = Unit {0}
-IsMessage (Event.End n) = ⊥
+abbrev pub afterAll : Held → List Lent → Held
+afterAll h [] = h
+afterAll h (c ∷ cs) = afterAll (after h c) cs

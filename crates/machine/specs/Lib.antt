@@ -1,2 +1,3 @@
--- A machine that is fed bytes.
+-- A machine that is fed bytes, and its hosts.
 pub mod Machine
+pub mod Hosts

@@ -1,10 +1,7 @@
 -- A machine that is fed bytes one by one, for any state S and any happening E. A call feeds it a piece up to the first byte that stops the
--- call, or to the piece's end; a host offers unused bytes again.
-use Prim.Native.Nat.{ℕ, zero, suc, _+_}
-use mathlib.Core.Bool.{Bool}
+-- call, or to the piece's end.
+use Prim.Native.Nat.{ℕ, _+_}
 use mathlib.Core.List.{List, [], _∷_, _++_}
-use lib.ListN.{length, drop}
-use Rattle.octets.specs.Words.{if_then_else_}
 
 -- what a byte does: a quiet one changes the state alone; one that stops the call may be answered, and something happens
 pub data Fed (S E : Type 0) : Type 0 where
@@ -18,7 +15,7 @@ pub record Out (S E : Type 0) : Type 0 where
   pub reply : List ℕ
   pub happened : E
 
--- what the peer and the host see in all: the replies joined, and all that happened
+-- what the peer and the host see in all: the replies one after the other, and all that happened
 pub record Seen (S E : Type 0) : Type 0 where
   pub state : S
   pub reply : List ℕ
@@ -45,23 +42,3 @@ module _ {S E : Type 0} where
   abbrev pub seen : (S → ℕ → Fed S E) → (E → List E) → S → List ℕ → Seen S E
   seen feed told s [] = record { state = s; reply = []; happened = [] }
   seen feed told s (b ∷ bs) = seenAfter told (feed s b) (λ t. seen feed told t bs)
-
--- ---- a host: it has the peer's bytes in pieces, offers the first, then what the call left of it, then the next, until no byte is left or
--- the machine is closed; n bounds its calls
-
-abbrev pub joined : List (List ℕ) → List ℕ
-joined [] = []
-joined (p ∷ ps) = p ++ joined ps
-
-abbrev pub calls : List (List ℕ) → ℕ
-calls [] = 0
-calls (p ∷ ps) = suc (length p + calls ps)
-
-module _ {S E : Type 0} (step : S → List ℕ → Out S E) (told : E → List E) (closed : S → Bool) where
-  abbrev pub host : ℕ → S → List (List ℕ) → Seen S E
-  host zero s ps = record { state = s; reply = []; happened = [] }
-  host (suc n) s [] = record { state = s; reply = []; happened = [] }
-  host (suc n) s ([] ∷ ps) = host n s ps
-  host (suc n) s ((b ∷ bs) ∷ ps) =
-      if closed s then record { state = s; reply = []; happened = [] }
-      else before (step s (b ∷ bs) .reply) (told (step s (b ∷ bs) .happened)) (host n (step s (b ∷ bs) .state) (drop (step s (b ∷ bs) .used) (b ∷ bs) ∷ ps))

@@ -8,21 +8,18 @@ use mathlib.Core.List.{List, [], _∷_, _++_, map}
 use lib.ListN.{length, take, drop, getD, length-take, length-drop, length-append, drop-of-length-le, length-map}
 use lib.Seq.{take-suc, take-all, take-append-seam}
 use borrow.Author.Tests.{eq-eqb, ne-eqb}
-use Rattle.octets.specs.Words.{_and_, _or_, every, between, _=?_}
+use Rattle.octets.specs.Words.{_and_, _or_, some, every, between, _=?_}
 use Rattle.octets.specs.Bytes.{same}
-use Rattle.octets.proofs.Tests.{or-next, or-left, and-next, and-not-left, true-not-false, inside, below, above}
+use Rattle.octets.proofs.Tests.{if-yes, if-no, or-next, or-left, and-next, and-not-left, true-not-false, inside, below, above}
 use Rattle.octets.proofs.Lists.{same-refl, same-eq, same-short, drop-next, every-next, every-not}
 use Rattle.tokens.specs.Cuts.{before}
-use Rattle.phrases.specs.Lines.{verb, lower, spells, tokenOf, tokenGood}
+use Rattle.phrases.specs.declared.Kind.{Kind}
+use Rattle.phrases.specs.Lines.{ihave, data-word, verb, lower, spells, leaving, asking, kindOf, tokenOf, tokenGood}
 
 -- a test that is true only where something false holds is false
 refuted : (b : Bool) → (b ≡ true → ⊥) → b ≡ false
 refuted true f = absurd (f refl)
 refuted false f = refl
-
-pub or-none : (b : Bool) → b or false ≡ b
-or-none true = refl
-or-none false = refl
 
 -- a part from the start, and a part up to the end
 pub from-start : (n : ℕ) (s w : List ℕ) → same (take (n - 0) s) w ≡ same (take n s) w
@@ -137,3 +134,18 @@ byte-high t i h b = every-not (between 0x21 0x7E) t i 0 h (above 0x21 0x7E (getD
 
 pub byte-good : (t : List ℕ) (i : ℕ) → i < length t → 0x21 ≤ getD t i 0 → getD t i 0 ≤ 0x7E → every (between 0x21 0x7E) (drop i t) ≡ every (between 0x21 0x7E) (drop (i + 1) t)
 byte-good t i h b c = every-next (between 0x21 0x7E) t i 0 h (inside 0x21 0x7E (getD t i 0) b c)
+
+-- ---- the kind
+
+module _ (s : List ℕ) (i : verb ihave s ≡ false) (d : verb data-word s ≡ false) where
+  pub leaving-is : some (spells s) leaving ≡ true → kindOf s ≡ Kind.Leave
+  unfolding kindOf
+  leaving-is l = if-no _ _ _ i ∙ if-no _ _ _ d ∙ if-yes _ _ _ l
+
+  pub asking-is : some (spells s) leaving ≡ false → some (spells s) asking ≡ true → kindOf s ≡ Kind.Ask
+  unfolding kindOf
+  asking-is l a = if-no _ _ _ i ∙ if-no _ _ _ d ∙ if-no _ _ _ l ∙ if-yes _ _ _ a
+
+  pub other-is : some (spells s) leaving ≡ false → some (spells s) asking ≡ false → kindOf s ≡ Kind.Other
+  unfolding kindOf
+  other-is l a = if-no _ _ _ i ∙ if-no _ _ _ d ∙ if-no _ _ _ l ∙ if-no _ _ _ a

@@ -40,10 +40,22 @@ pub fn kind_of(s: &[u8]) -> Kind
     if lines::is_verb(s, b"data") {
         return Kind::Data;
     }
-    if lines::leaves(s) {
+    if lines::is_word(s, b"quit") {
         return Kind::Leave;
     }
-    if lines::asks(s) {
+    if lines::is_word(s, b"q") {
+        return Kind::Leave;
+    }
+    if lines::is_word(s, b"bye") {
+        return Kind::Leave;
+    }
+    if lines::is_word(s, b"exit") {
+        return Kind::Leave;
+    }
+    if lines::is_word(s, b"help") {
+        return Kind::Ask;
+    }
+    if lines::is_word(s, b"info") {
         return Kind::Ask;
     }
     Kind::Other

@@ -1,12 +1,12 @@
 -- No reply is longer than 24 bytes; a reply that fits stands at the front of its buffer.
-use mathlib.Core.Path.{_≡_, refl, sym, ap, _∙_}
+use mathlib.Core.Path.{_≡_, refl, ap, _∙_}
 use Prim.Native.Nat.{ℕ, _+_, _≤_}
 use native.Mathlib.Omega.{arith}
 use mathlib.Core.Bool.{Bool, true, false}
 use mathlib.Core.List.{List, [], _∷_, _++_}
 use lib.ListN.{length, drop, length-append}
 use borrow.Author.Tests.{le-leb}
-use Rattle.octets.specs.Words.{if_then_else_, _=?_}
+use Rattle.octets.specs.Words.{if_then_else_, _and_, _=?_}
 use Rattle.octets.specs.Bytes.{front, placed}
 use Rattle.octets.proofs.Tests.{if-yes, and-left, inside-high}
 use Rattle.octets.proofs.Lists.{placed-in}
@@ -23,8 +23,8 @@ use Rattle.phrases.specs.Lines.{kindOf, isData, tokenOf, tokenGood}
 use Rattle.phrases.specs.Replies.{LF, prompt, 'error', sends, errs, acks, bads, wrote}
 use Rattle.talk.specs.declared.Terms.{Terms}
 use Rattle.talk.specs.declared.Session.{Session}
-use Rattle.talk.specs.Sessions.{salted, receiving, lineSoFar}
-use Rattle.talk.specs.Talk.{Turn, nothing, closing, offered, completed, heardAs, heard, dataHeard}
+use Rattle.talk.specs.Sessions.{keepsTerms, salted, lineSoFar}
+use Rattle.talk.specs.Talk.{Turn, offered, completed, heardAs, heard, dataHeard}
 use Rattle.session.specs.Feed.{obeyed}
 
 -- a reply that fits
@@ -69,7 +69,7 @@ completed-short t h = by-test (idNumber (finished h) =? t .id) _ _ (acks-short (
 
 data-short : (t : Terms) (s : List ℕ) → length (dataHeard t s .reply) ≤ 24
 unfolding dataHeard
-data-short t s = by-test (isData (t .id) s) _ _ (by-test (t .len =? 0) _ _ (completed-short t (salted t)) (omega arith)) (omega arith)
+data-short t s = by-test (keepsTerms t and isData (t .id) s) _ _ (by-test (t .len =? 0) _ _ (completed-short t (salted t)) (omega arith)) (omega arith)
 
 offered-short : (s : List ℕ) (r : Reading) (m : Line) → length (offered s r m .reply) ≤ 24
 offered-short s Reading.Read m = sends-short (m .fields .id)

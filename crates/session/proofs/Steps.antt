@@ -1,188 +1,165 @@
 -- What the code answers is what feeding the piece comes to.
 use mathlib.Core.Path.{_≡_, refl, sym, ap, _∙_, subst}
-use Prim.Native.Nat.{ℕ, suc, _+_, _-_, _≤_, _<_}
+use Prim.Native.Nat.{ℕ, _+_, _-_, _≤_, _<_}
 use native.Mathlib.Omega.{arith}
-use native.Mathlib.Decide.{decLe}
-use mathlib.Core.Bool.{Bool, true, false}
-use mathlib.Core.List.{List, [], _∷_, _++_}
-use lib.ListN.{length, take, drop, getD, length-take, take-append-drop, drop-of-length-le}
-use lib.Seq.{length-take-le}
+use mathlib.Core.List.{List, []}
+use lib.ListN.{length, take, drop, getD, take-append-drop}
+use lib.Seq.{length-take-le, take-all}
 use borrow.Author.Tests.{eq-eqb, ne-eqb}
 use Rattle.octets.proofs.Tests.{if-yes, if-no}
 use Rattle.octets.specs.Bytes.{front, placed}
-use Rattle.octets.proofs.Lists.{drop-next}
 use Rattle.sha1.specs.declared.Sha1.{Sha1}
 use Rattle.sha1.specs.Machine.{fedAll}
 use Rattle.line.specs.declared.Line.{Line}
 use Rattle.line.specs.Reading.{blankLine}
-use Rattle.machine.specs.Machine.{Fed, Out, after, run}
-use Rattle.talk.specs.declared.Event.{Event}
+use Rattle.machine.specs.Machine.{Out, run}
 use Rattle.talk.specs.declared.Session.{Session}
-use Rattle.talk.specs.declared.Said.{Said}
+use Rattle.talk.specs.Answer.{Happening, Telling}
 use Rattle.talk.specs.Sessions.{closed, lineSoFar}
-use Rattle.talk.specs.Talk.{Happening, Turn, nothing, closing, completed, heard, dataHeard, saidIn}
-use Rattle.session.specs.declared.Step.{Step}
-use Rattle.session.specs.declared.Stepping.{Stepping}
-use Rattle.session.specs.Feed.{Both, both, turns, obeyed, feed}
-use Rattle.session.specs.Calls.{refused, went}
-use Rattle.session.specs.Runs.{quietLength, filled, received, spoken, Answers}
-use Rattle.session.proofs.Runs.{quiet-bounds, quiet-stop, run-line, line-ends, line-over, run-payload, run-whole}
+use Rattle.talk.specs.Talk.{Turn, nothing, ended, closing, completed, heard, dataHeard, toldIn}
+use Rattle.session.specs.Answer as answer
+use Rattle.session.specs.Feed.{obeyed, pushed, feed}
+use Rattle.session.specs.Calls.{made}
+use Rattle.session.specs.Runs.{spoken, Gathered, Answers}
+use Rattle.session.proofs.Runs.{run-push, run-obey, run-over, run-end, received, run-payload, run-whole}
 use Rattle.session.proofs.Replies.{at-front, obeyed-short, completed-short}
 
 -- the answer is known where the outcome is
-answers-by : (s : Session) (pl piece : List ℕ) (o : Out Both Happening) (r : Step) (payload reply replyAfter : List ℕ) → run feed nothing 0 (both s pl) piece ≡ o
-    → (r ≡ went o .answer) × (payload ≡ o .state .payload) × (replyAfter ≡ front (o .reply) reply) → Answers s pl piece r payload reply replyAfter
-answers-by s pl piece o r payload reply replyAfter e k =
-    subst (λ (x : Out Both Happening). (r ≡ went x .answer) × (payload ≡ x .state .payload) × (replyAfter ≡ front (x .reply) reply)) (sym e) k
+answers-by : (s : Session) (piece : List ℕ) (o : Out Session Happening) (r : answer.Record) (reply replyAfter : List ℕ) → run feed nothing 0 s piece ≡ o
+    → (r ≡ made o) × (replyAfter ≡ front (o .reply) reply) → Answers s piece r reply replyAfter
+answers-by s piece o r reply replyAfter e k = subst (λ (x : Out Session Happening). (r ≡ made x) × (replyAfter ≡ front (x .reply) reply)) (sym e) k
 
 -- what a turn says, in a step
-spoken-as : (t : Turn) (used n : ℕ) (pl reply : List ℕ) → length (t .reply) ≤ 24 → 24 ≤ length reply → used ≡ n
-    → spoken used (saidIn t reply) ≡ went (record { used = n; state = both (t .next) pl; reply = t .reply; happened = t .happening }) .answer
-spoken-as t used n pl reply h k e =
-    let w = at-front (t .reply) reply (omega arith) .0 in
-    λ i. record { stepping = Stepping.Went; used = e i; event = t .happening .event; written = w i; line = t .happening .line; session = t .next }
+spoken-as : (t : Turn) (used : ℕ) (reply : List ℕ) → length (t .reply) ≤ 24 → 24 ≤ length reply
+    → spoken used (toldIn t reply) ≡ made (record { used = used; state = t .next; reply = t .reply; happened = t .happening })
+spoken-as t used reply h k =
+    let w = at-front (t .reply) reply (omega arith) in λ i. record { answer = answer.made; used = used; happening = t .happening; written = w .0 i; next = t .next }
 
--- ---- the answers from their parts
+-- ---- the records
 
-pub refused-is : (s : Session) (n : ℕ) (m : Line) → m ≡ blankLine
-    → _≡_ {A = Step} (record { stepping = Stepping.Refused n; used = 0; event = Event.Nothing; written = 0; line = m; session = s }) (refused s [] n .answer)
-refused-is s n m e = λ i. record { stepping = Stepping.Refused n; used = 0; event = Event.Nothing; written = 0; line = e i; session = s }
+abbrev still : answer.Answer → ℕ → Line → Session → answer.Record
+still a used m s = record { answer = a; used = used; happening = record { what = nothing .what; line = m }; written = 0; next = s }
 
-pub quiet-is : (used : ℕ) (s : Session) (m : Line) → m ≡ blankLine
-    → _≡_ {A = Step} (record { stepping = Stepping.Went; used = used; event = Event.Nothing; written = 0; line = m; session = s })
-    (went (record { used = used; state = both s []; reply = []; happened = nothing }) .answer)
-quiet-is used s m e = λ i. record { stepping = Stepping.Went; used = used; event = Event.Nothing; written = 0; line = e i; session = s }
+pub still-is : (a : answer.Answer) (used : ℕ) (m : Line) (s : Session) → m ≡ blankLine → still a used m s ≡ still a used blankLine s
+still-is a used m s e = ap (λ (x : Line). still a used x s) e
 
-pub filled-by : (s : Session) (bs l : List ℕ) → l ≡ placed bs (s .«line_len») (s .line)
-    → _≡_ {A = Session} (record { mode = s .mode; «line_len» = s .«line_len» + length bs; line = l; terms = s .terms; got = s .got; hash = s .hash }) (filled s bs)
-filled-by s bs l e = λ i. record { mode = s .mode; «line_len» = s .«line_len» + length bs; line = e i; terms = s .terms; got = s .got; hash = s .hash }
-
-pub received-by : (s : Session) (bs : List ℕ) (h : Sha1) → h ≡ fedAll (s .hash) bs
-    → _≡_ {A = Session} (record { mode = s .mode; «line_len» = s .«line_len»; line = s .line; terms = s .terms; got = s .got + length bs; hash = h }) (received s bs)
-received-by s bs h e = λ i. record { mode = s .mode; «line_len» = s .«line_len»; line = s .line; terms = s .terms; got = s .got + length bs; hash = e i }
-
-module _ (s : Session) (used : ℕ) (r : Step) (x : Said) (reply after : List ℕ) where
-  so-far : take (s .«line_len» - 0) (s .line) ≡ lineSoFar s
-  so-far = let z : s .«line_len» - 0 ≡ s .«line_len» = omega arith in ap (λ (n : ℕ). take n (s .line)) z
-
-  turn-said : (t u : Turn) → u ≡ t → r ≡ spoken used x → (x ≡ saidIn t reply) × (after ≡ placed (t .reply) 0 reply)
-      → (r ≡ spoken used (saidIn u reply)) × (after ≡ placed (u .reply) 0 reply)
+module _ (s : Session) (used : ℕ) (r : answer.Record) (line : List ℕ) (x : Telling) (reply after : List ℕ) (l : line ≡ lineSoFar s) where
+  turn-said : (t u : Turn) → u ≡ t → r ≡ spoken used x → (x ≡ toldIn t reply) × (after ≡ placed (t .reply) 0 reply)
+      → (r ≡ spoken used (toldIn u reply)) × (after ≡ placed (u .reply) 0 reply)
   turn-said t u e k h =
-      (k ∙ ap (spoken used) (h .0) ∙ ap (λ (y : Turn). spoken used (saidIn y reply)) (sym e), h .1 ∙ ap (λ (y : Turn). placed (y .reply) 0 reply) (sym e))
+      (k ∙ ap (spoken used) (h .0) ∙ ap (λ (y : Turn). spoken used (toldIn y reply)) (sym e), h .1 ∙ ap (λ (y : Turn). placed (y .reply) 0 reply) (sym e))
 
-  pub obeyed-first : s .mode ≡ 0 → r ≡ spoken used x
-      → (x ≡ saidIn (heard (take (s .«line_len» - 0) (s .line))) reply) × (after ≡ placed (heard (take (s .«line_len» - 0) (s .line)) .reply) 0 reply)
-      → (r ≡ spoken used (saidIn (obeyed s) reply)) × (after ≡ placed (obeyed s .reply) 0 reply)
-  obeyed-first m k h = turn-said (heard (take (s .«line_len» - 0) (s .line))) (obeyed s) (if-yes _ _ _ (eq-eqb _ _ m) ∙ ap heard (sym so-far)) k h
+  pub obeyed-first : s .mode ≡ 0 → r ≡ spoken used x → (x ≡ toldIn (heard line) reply) × (after ≡ placed (heard line .reply) 0 reply)
+      → (r ≡ spoken used (toldIn (obeyed s) reply)) × (after ≡ placed (obeyed s .reply) 0 reply)
+  obeyed-first m k h = turn-said (heard line) (obeyed s) (if-yes _ _ _ (eq-eqb _ _ m) ∙ ap heard (sym l)) k h
 
-  pub obeyed-data : (s .mode ≡ 0 → ⊥) → r ≡ spoken used x
-      → (x ≡ saidIn (dataHeard (s .terms) (take (s .«line_len» - 0) (s .line))) reply) × (after ≡ placed (dataHeard (s .terms) (take (s .«line_len» - 0) (s .line)) .reply) 0 reply)
-      → (r ≡ spoken used (saidIn (obeyed s) reply)) × (after ≡ placed (obeyed s .reply) 0 reply)
-  obeyed-data m k h = turn-said (dataHeard (s .terms) (take (s .«line_len» - 0) (s .line))) (obeyed s) (if-no _ _ _ (ne-eqb _ _ m) ∙ ap (dataHeard (s .terms)) (sym so-far)) k h
+  pub obeyed-data : (s .mode ≡ 0 → ⊥) → r ≡ spoken used x → (x ≡ toldIn (dataHeard (s .terms) line) reply) × (after ≡ placed (dataHeard (s .terms) line .reply) 0 reply)
+      → (r ≡ spoken used (toldIn (obeyed s) reply)) × (after ≡ placed (obeyed s .reply) 0 reply)
+  obeyed-data m k h = turn-said (dataHeard (s .terms) line) (obeyed s) (if-no _ _ _ (ne-eqb _ _ m) ∙ ap (dataHeard (s .terms)) (sym l)) k h
+
+-- ---- quiet bytes of a line
+
+-- how far the loop is, at i
+pub record Far (s : Session) (piece : List ℕ) (i : ℕ) (t : Session) : Type 0 where
+  pub within : i ≤ length piece
+  pub len : t .«line_len» ≡ s .«line_len» + i
+  pub full : t .«line_len» ≤ 512
+  pub mode : t .mode ≡ s .mode
+  pub same : run feed nothing 0 s piece ≡ run feed nothing i t (drop i piece)
+
+pub far-start : (s : Session) (piece : List ℕ) → s .«line_len» ≤ 512 → Far s piece 0 s
+far-start s piece h = record { within = omega arith; len = omega arith; full = h; mode = refl; same = refl }
+
+module _ (s : Session) (piece : List ℕ) (i : ℕ) (t : Session) (f : Far s piece i t) where
+  pub far-next : s .mode ≤ 1 → i < length piece → (getD piece i 0 ≡ 10 → ⊥) → (t .«line_len» ≡ 512 → ⊥) → Far s piece (i + 1) (pushed t (getD piece i 0))
+  far-next m h n l =
+      let k : t .«line_len» < 512 = omega (arith, f .full) in
+      record {
+        within = omega arith;
+        len = omega (arith, f .len);
+        full = omega arith;
+        mode = f .mode;
+        same = f .same ∙ run-push piece i t h (omega (arith, f .mode)) n k;
+      }
+
+  pub far-gathered : (i < length piece → (getD piece i 0 ≡ 10 → ⊥) → t .«line_len» ≡ 512) → Gathered s piece t
+  far-gathered stops =
+      let e : i ≡ t .«line_len» - s .«line_len» = omega (arith, f .len) in
+      record {
+        from = omega (arith, f .len);
+        to = f .full;
+        within = omega (arith, f .within);
+        mode = f .mode;
+        same = subst (λ (n : ℕ). run feed nothing 0 s piece ≡ run feed nothing n t (drop n piece)) e (f .same);
+        stops = subst (λ (n : ℕ). n < length piece → (getD piece n 0 ≡ 10 → ⊥) → t .«line_len» ≡ 512) e stops;
+      }
 
 -- ---- a line
 
-module _ (s t : Session) (piece reply : List ℕ) (n : ℕ) (m : s .mode ≤ 1) (l : s .«line_len» ≤ 512) (a : length (s .line) ≡ 512)
-    (q : n ≡ quietLength (512 - s .«line_len») piece) (f : t ≡ filled s (take (n - 0) piece)) where
-  to-there : (pl : List ℕ) → run feed nothing 0 (both s pl) piece ≡ run feed nothing n (both t pl) (drop n piece)
-  to-there pl =
-      let z : 0 + quietLength (512 - s .«line_len») piece ≡ n = omega arith in
-      let y : quietLength (512 - s .«line_len») piece ≡ n - 0 = omega arith in
-      run-line pl piece (512 - s .«line_len») 0 s m (omega arith) a
-      ∙ ap (λ (k : ℕ). run feed nothing k (both (filled s (take (quietLength (512 - s .«line_len») piece) piece)) pl) (drop (quietLength (512 - s .«line_len») piece) piece)) z
-      ∙ ap (λ (k : ℕ). run feed nothing n (both (filled s (take k piece)) pl) (drop (quietLength (512 - s .«line_len») piece) piece)) y
-      ∙ ap (λ (k : ℕ). run feed nothing n (both (filled s (take (n - 0) piece)) pl) (drop k piece)) (sym q)
-      ∙ ap (λ (x : Session). run feed nothing n (both x pl) (drop n piece)) (sym f)
+module _ (s t : Session) (piece reply : List ℕ) (m : s .mode ≤ 1) (g : Gathered s piece t) where
+  abbrev n : ℕ
+  n = t .«line_len» - s .«line_len»
 
   -- all of the piece was quiet
-  pub line-quiet : (r : Step) → n ≡ length piece → r ≡ went (record { used = n; state = both t []; reply = []; happened = nothing }) .answer → (pl : List ℕ) → Answers s pl piece r pl reply reply
-  line-quiet r e k pl =
-      answers-by s pl piece (record { used = n; state = both t pl; reply = []; happened = nothing }) r pl reply reply
-      (to-there pl ∙ ap (run feed nothing n (both t pl)) (drop-of-length-le piece {i = n} (omega arith))) (k, refl, refl)
+  pub line-quiet : (r : answer.Record) → n ≡ length piece → r ≡ made (record { used = n; state = t; reply = []; happened = nothing }) → Answers s piece r reply reply
+  line-quiet r e k = answers-by s piece (record { used = n; state = t; reply = []; happened = nothing }) r reply reply (g .same ∙ run-end piece n t (omega arith)) (k, refl)
 
-  next-byte : (pl : List ℕ) → n < length piece → run feed nothing n (both t pl) (drop n piece) ≡ after (feed (both t pl) (getD piece n 0)) n (λ x. run feed nothing (n + 1) x (drop (n + 1) piece))
-  next-byte pl h = ap (run feed nothing n (both t pl)) (drop-next piece n 0 h)
-
-  same-mode : t .mode ≡ s .mode
-  same-mode = ap (λ (x : Session). x .mode) f
+  low : t .mode ≤ 1
+  low = omega (arith, g .mode)
 
   -- an LF: the line is whole
-  pub line-whole : (r : Step) (replyAfter : List ℕ) → n < length piece → getD piece n 0 ≡ 10 → 24 ≤ length reply
-      → (r ≡ spoken (n + 1) (saidIn (obeyed t) reply)) × (replyAfter ≡ placed (obeyed t .reply) 0 reply) → (pl : List ℕ) → Answers s pl piece r pl reply replyAfter
-  line-whole r replyAfter h b room k pl =
+  pub line-whole : (r : answer.Record) (replyAfter : List ℕ) → (n ≡ length piece → ⊥) → getD piece n 0 ≡ 10 → 24 ≤ length reply
+      → (r ≡ spoken (n + 1) (toldIn (obeyed t) reply)) × (replyAfter ≡ placed (obeyed t .reply) 0 reply) → Answers s piece r reply replyAfter
+  line-whole r replyAfter h b room k =
       let o = obeyed t in
       let w = at-front (o .reply) reply (omega (arith, obeyed-short t)) in
-      answers-by s pl piece (record { used = n + 1; state = both (o .next) pl; reply = o .reply; happened = o .happening }) r pl reply replyAfter
-      (to-there pl ∙ next-byte pl h
-      ∙ ap (λ (x : Fed Both Happening). after x n (λ y. run feed nothing (n + 1) y (drop (n + 1) piece))) (line-ends pl t (getD piece n 0) (omega (arith, same-mode)) b))
-      (k .0 ∙ spoken-as o (n + 1) (n + 1) pl reply (obeyed-short t) room refl, refl, k .1 ∙ w .1)
-
-  full : n < length piece → (getD piece n 0 ≡ 10 → ⊥) → 512 ≤ t .«line_len»
-  full h b = go (decLe (512 - s .«line_len») n)
-    where
-      len : t .«line_len» ≡ s .«line_len» + length (take (n - 0) piece)
-      len = ap (λ (x : Session). x .«line_len») f
-
-      go : Dec (512 - s .«line_len» ≤ n) → 512 ≤ t .«line_len»
-      go (yes e) = omega (arith, len, length-take-le (n - 0) piece (omega arith))
-      go (no e) =
-          let k : quietLength (512 - s .«line_len») piece < length piece = omega arith in
-          let g : quietLength (512 - s .«line_len») piece < 512 - s .«line_len» = omega arith in
-          absurd (b (ap (λ (i : ℕ). getD piece i 0) q ∙ quiet-stop (512 - s .«line_len») piece k g))
+      answers-by s piece (record { used = n + 1; state = o .next; reply = o .reply; happened = o .happening }) r reply replyAfter
+      (g .same ∙ run-obey piece n t (omega (arith, g .within)) low b) (k .0 ∙ spoken-as o (n + 1) reply (obeyed-short t) room, k .1 ∙ w .1)
 
   -- a 513th byte
-  pub line-long : (r : Step) (m₀ : Line) (x : Session) → n < length piece → (getD piece n 0 ≡ 10 → ⊥) → m₀ ≡ blankLine → x ≡ closed
-      → r ≡ record { stepping = Stepping.Went; used = n + 1; event = Event.End 1; written = 0; line = m₀; session = x } → (pl : List ℕ) → Answers s pl piece r pl reply reply
-  line-long r m₀ x h b p c k pl =
-      answers-by s pl piece (record { used = n + 1; state = both closed pl; reply = []; happened = closing [] 1 .happening }) r pl reply reply
-      (to-there pl ∙ next-byte pl h
-      ∙ ap (λ (y : Fed Both Happening). after y n (λ z. run feed nothing (n + 1) z (drop (n + 1) piece))) (line-over pl t (getD piece n 0) (omega (arith, same-mode)) b (full h b)))
-      (k ∙ (λ i. record { stepping = Stepping.Went; used = n + 1; event = Event.End 1; written = 0; line = p i; session = c i }), refl, refl)
-
--- what the code asks for on the way
-pub below : (n m : ℕ) → n ≤ m → (n ≡ m → ⊥) → n < m
-below n m h d = go (decLe m n)
-  where
-    go : Dec (m ≤ n) → n < m
-    go (yes e) = absurd (d (omega arith))
-    go (no e) = omega arith
-
-module _ (s t : Session) (piece : List ℕ) (n : ℕ) (l : s .«line_len» ≤ 512) (q : n ≡ quietLength (512 - s .«line_len») piece) where
-  pub within : n ≤ length piece
-  within = omega (arith, quiet-bounds (512 - s .«line_len») piece .0)
-
-  pub few : n ≤ 512
-  few = omega (arith, quiet-bounds (512 - s .«line_len») piece .1)
-
-  pub fill-fits : s .«line_len» + length (take (n - 0) piece) ≤ 512
-  fill-fits = omega (arith, quiet-bounds (512 - s .«line_len») piece .1, length-take (n - 0) piece)
-
-  pub filled-fits : t ≡ filled s (take (n - 0) piece) → t .«line_len» ≤ 512
-  filled-fits f = omega (arith, fill-fits, ap (λ (x : Session). x .«line_len») f)
+  pub line-long : (r : answer.Record) (m₀ : Line) (x : Session) → (n ≡ length piece → ⊥) → (getD piece n 0 ≡ 10 → ⊥) → m₀ ≡ blankLine → x ≡ closed
+      → r ≡ record { answer = answer.made; used = n + 1; happening = record { what = ended 1 .what; line = m₀ }; written = 0; next = x } → Answers s piece r reply reply
+  line-long r m₀ x h b p c k =
+      let d : n < length piece = omega (arith, g .within) in
+      answers-by s piece (record { used = n + 1; state = closed; reply = []; happened = closing [] 1 .happening }) r reply reply
+      (g .same ∙ run-over piece n t d low b (omega (arith, g .stops d b)))
+      (k ∙ (λ i. record { answer = answer.made; used = n + 1; happening = record { what = ended 1 .what; line = p i }; written = 0; next = c i }), refl)
 
 -- ---- a payload
 
-module _ (s : Session) (piece pl pl₁ reply : List ℕ) (m : s .mode ≡ 2) (g : s .got < s .terms .len) (h : s .terms .len ≤ length pl) where
-  pub payload-part : (r : Step) (t : Session) → s .got + length piece < s .terms .len → pl₁ ≡ placed piece (s .got) pl → t ≡ received s piece
-      → r ≡ went (record { used = length piece; state = both t []; reply = []; happened = nothing }) .answer → Answers s pl piece r pl₁ reply reply
-  payload-part r t k p q e =
-      let z : 0 + length piece ≡ length piece = omega arith in
-      answers-by s pl piece (record { used = length piece; state = both (received s piece) (placed piece (s .got) pl); reply = []; happened = nothing }) r pl₁ reply reply
-      (run-payload piece 0 s pl m k h ∙ (λ i. record { used = z i; state = both (received s piece) (placed piece (s .got) pl); reply = []; happened = nothing }))
-      (e ∙ ap (λ (x : Session). went (record { used = length piece; state = both x []; reply = []; happened = nothing }) .answer) q, p, refl)
+module _ (s : Session) (piece pl pl₁ reply : List ℕ) (m : s .mode ≡ 2) (g : s .got < s .terms .len) where
+  -- what a call of a payload leaves: its answer, and the bytes used at their places
+  abbrev Receives : answer.Record → List ℕ → Type 0
+  Receives r replyAfter = Answers s piece r reply replyAfter × (pl₁ ≡ placed (take (run feed nothing 0 s piece .used) piece) (s .got) pl)
 
-  pub payload-whole : (r : Step) (d : Sha1) (n : ℕ) (replyAfter : List ℕ) → s .got + n ≡ s .terms .len → n ≤ length piece → 24 ≤ length reply
+  pub payload-part : (r : answer.Record) (h : Sha1) → s .got + length piece < s .terms .len → pl₁ ≡ placed piece (s .got) pl → h ≡ fedAll (s .hash) piece
+      → r ≡ made (record { used = length piece; state = record { mode = s .mode; «line_len» = s .«line_len»; line = s .line; terms = s .terms; got = s .got + length piece; hash = h }; reply = []; happened = nothing })
+      → Receives r reply
+  payload-part r h k p q e =
+      let z : 0 + length piece ≡ length piece = omega arith in
+      let o : run feed nothing 0 s piece ≡ record { used = length piece; state = received s piece; reply = []; happened = nothing } =
+      run-payload piece 0 s m k ∙ (λ i. record { used = z i; state = received s piece; reply = []; happened = nothing }) in (
+        answers-by s piece (record { used = length piece; state = received s piece; reply = []; happened = nothing }) r reply reply o
+            (e ∙ ap (λ (x : Sha1). made (record { used = length piece; state = record { mode = s .mode; «line_len» = s .«line_len»; line = s .line; terms = s .terms; got = s .got + length piece; hash = x }; reply = []; happened = nothing })) q, refl),
+        p ∙ ap (λ (w : List ℕ). placed w (s .got) pl) (sym (ap (λ (x : Out Session Happening). take (x .used) piece) o ∙ take-all (length piece) piece (omega arith))),
+      )
+
+  pub payload-whole : (r : answer.Record) (d : Sha1) (n : ℕ) (x : Telling) (replyAfter : List ℕ) → s .got + n ≡ s .terms .len → n ≤ length piece → 24 ≤ length reply
       → pl₁ ≡ placed (take (n - 0) piece) (s .got) pl → d ≡ fedAll (s .hash) (take (n - 0) piece)
-      → (r ≡ spoken n (saidIn (completed (s .terms) d) reply)) × (replyAfter ≡ placed (completed (s .terms) d .reply) 0 reply) → Answers s pl piece r pl₁ reply replyAfter
-  payload-whole r d n replyAfter e le room p q k =
+      → r ≡ spoken n x → (x ≡ toldIn (completed (s .terms) d) reply) × (replyAfter ≡ placed (completed (s .terms) d .reply) 0 reply) → Receives r replyAfter
+  payload-whole r d n x replyAfter e le room p q y k =
       let bs = take (n - 0) piece in
       let c : length bs ≡ n = length-take-le (n - 0) piece (omega arith) ∙ omega arith in
-      let o = completed (s .terms) d in
-      let w = at-front (o .reply) reply (omega (arith, completed-short (s .terms) d)) in
+      let u = completed (s .terms) d in
+      let w = at-front (u .reply) reply (omega (arith, completed-short (s .terms) d)) in
       let z : 0 + length bs ≡ n = omega arith in
-      answers-by s pl piece (record { used = n; state = both (o .next) (placed bs (s .got) pl); reply = o .reply; happened = o .happening }) r pl₁ reply replyAfter
-      (ap (run feed nothing 0 (both s pl)) (sym (take-append-drop (n - 0) piece))
-      ∙ run-whole bs (drop (n - 0) piece) 0 s pl m g (omega arith) h
-      ∙ ap (λ (x : Sha1). let u = completed (s .terms) x in record { used = 0 + length bs; state = both (u .next) (placed bs (s .got) pl); reply = u .reply; happened = u .happening }) (sym q)
-      ∙ (λ i. record { used = z i; state = both (o .next) (placed bs (s .got) pl); reply = o .reply; happened = o .happening }))
-      (k .0 ∙ spoken-as o n n (placed bs (s .got) pl) reply (completed-short (s .terms) d) room refl, p, k .1 ∙ w .1)
+      let v : n - 0 ≡ n = omega arith in
+      let o : run feed nothing 0 s piece ≡ record { used = n; state = u .next; reply = u .reply; happened = u .happening } =
+      ap (run feed nothing 0 s) (sym (take-append-drop (n - 0) piece))
+      ∙ run-whole bs (drop (n - 0) piece) 0 s m g (omega arith)
+      ∙ ap (λ (h : Sha1). let t = completed (s .terms) h in record { used = 0 + length bs; state = t .next; reply = t .reply; happened = t .happening }) (sym q)
+      ∙ (λ i. record { used = z i; state = u .next; reply = u .reply; happened = u .happening }) in (
+        answers-by s piece (record { used = n; state = u .next; reply = u .reply; happened = u .happening }) r reply replyAfter o
+            (y ∙ ap (spoken n) (k .0) ∙ spoken-as u n reply (completed-short (s .terms) d) room, k .1 ∙ w .1),
+        p ∙ ap (λ (j : ℕ). placed (take j piece) (s .got) pl) (v ∙ sym (ap (λ (a : Out Session Happening). a .used) o)),
+      )

@@ -1,55 +1,48 @@
 -- Document 01, "The receiving session": the two calls, with their refusals: 40, 22, 5.
 use Prim.Native.Nat.{ℕ}
 use mathlib.Core.List.{List, []}
-use lib.ListN.{length}
+use lib.ListN.{length, take}
 use Rattle.octets.specs.Words.{if_then_else_, _or_, no, _<?_, _=?_}
+use Rattle.octets.specs.Bytes.{placed}
 use Rattle.refusals.specs.Numbers.{bufferTooShort, sessionClosed, stateBroken, longestPayload}
-use Rattle.line.specs.Reading.{blankLine}
 use Rattle.phrases.specs.Replies.{prompt}
 use Rattle.machine.specs.Machine.{Out, run}
-use Rattle.talk.specs.declared.Event.{Event}
 use Rattle.talk.specs.declared.Session.{Session}
+use Rattle.talk.specs.Answer.{Happening}
 use Rattle.talk.specs.Sessions.{listening, closed}
-use Rattle.talk.specs.Talk.{Happening, nothing}
-use Rattle.session.specs.declared.Stepping.{Stepping}
-use Rattle.session.specs.declared.Step.{Step}
-use Rattle.session.specs.declared.Opened.{Opened}
-use Rattle.session.specs.Feed.{Both, both, feed}
+use Rattle.talk.specs.Talk.{nothing}
+use Rattle.session.specs.Answer as answer
+use Rattle.session.specs.Feed.{feed}
 use Rattle.session.specs.Rules.{keepsSession}
 
 -- no reply is longer
 abbrev pub longestReply : ℕ
 longestReply = 24
 
--- what a call comes to: its answer, the payload buffer after it, and the reply, which stands at the front of the reply buffer
+-- what a call comes to: its record, the payload buffer after it, and the reply, which stands at the front of the reply buffer
 pub record Outcome : Type 0 where
-  pub answer : Step
+  pub told : answer.Record
   pub payload : List ℕ
   pub reply : List ℕ
 
 -- a refusal: its number, and everything as it was
 abbrev pub refused : Session → List ℕ → ℕ → Outcome
 refused s pl n = record {
-  answer = record { stepping = Stepping.Refused n; used = 0; event = Event.Nothing; written = 0; line = blankLine; session = s };
+  told = record { answer = answer.refused n; used = 0; happening = nothing; written = 0; next = s };
   payload = pl;
   reply = [];
 }
 
--- a piece that was fed
-abbrev pub went : Out Both Happening → Outcome
-went o = record {
-  answer =
-      record {
-        stepping = Stepping.Went;
-        used = o .used;
-        event = o .happened .event;
-        written = length (o .reply);
-        line = o .happened .line;
-        session = o .state .session;
-      };
-  payload = o .state .payload;
-  reply = o .reply;
-}
+-- a call that was made, by what feeding its piece comes to
+abbrev pub made : Out Session Happening → answer.Record
+made o = record { answer = answer.made; used = o .used; happening = o .happened; written = length (o .reply); next = o .state }
+
+-- while a payload comes, the bytes used go to their places in the buffer; else it stays
+abbrev pub stored : Session → List ℕ → List ℕ → List ℕ
+stored s bytes pl = if s .mode =? 2 then placed bytes (s .got) pl else pl
+
+abbrev pub went : Session → List ℕ → List ℕ → Out Session Happening → Outcome
+went s piece pl o = record { told = made o; payload = stored s (take (o .used) piece) pl; reply = o .reply }
 
 -- 40, then 22, then 5; else the piece is fed up to the end of a line or of a payload
 unfoldable pub stepOf : Session → List ℕ → List ℕ → ℕ → Outcome
@@ -57,13 +50,13 @@ stepOf s piece pl room =
     if no (keepsSession s) then refused s pl stateBroken
     else if s .mode =? 3 then refused s pl sessionClosed
     else if length pl <? longestPayload or room <? longestReply then refused s pl bufferTooShort
-    else went (run feed nothing 0 (both s pl) piece)
+    else went s piece pl (run feed nothing 0 s piece)
 
 -- opening writes the prompt
-unfoldable pub openOf : ℕ → Opened
+unfoldable pub openOf : ℕ → answer.Opening
 openOf room =
-    if room <? longestReply then record { stepping = Stepping.Refused bufferTooShort; written = 0; session = closed }
-    else record { stepping = Stepping.Went; written = length prompt; session = listening }
+    if room <? longestReply then record { answer = answer.refused bufferTooShort; written = 0; next = closed }
+    else record { answer = answer.made; written = length prompt; next = listening }
 
 unfoldable pub openReply : ℕ → List ℕ
 openReply room = if room <? longestReply then [] else prompt

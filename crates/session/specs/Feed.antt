@@ -6,20 +6,13 @@ use Rattle.octets.specs.Words.{if_then_else_, _<?_, _=?_}
 use Rattle.sha1.specs.Machine.{fed}
 use Rattle.machine.specs.Machine.{Fed, quiet, stop}
 use Rattle.talk.specs.declared.Session.{Session}
+use Rattle.talk.specs.Answer.{Happening}
 use Rattle.talk.specs.Sessions.{lineSoFar}
-use Rattle.talk.specs.Talk.{Happening, Turn, closing, completed, heard, dataHeard}
-
--- the session, and the host's payload buffer
-pub record Both : Type 0 where
-  pub session : Session
-  pub payload : List ℕ
-
-abbrev pub both : Session → List ℕ → Both
-both s pl = record { session = s; payload = pl }
+use Rattle.talk.specs.Talk.{Turn, closing, completed, heard, dataHeard}
 
 -- a byte that ends a line or a payload stops the call; what it leads to is its turn
-abbrev pub turns : Turn → List ℕ → Fed Both Happening
-turns t pl = stop (both (t .next) pl) (t .reply) (t .happening)
+abbrev pub turns : Turn → Fed Session Happening
+turns t = stop (t .next) (t .reply) (t .happening)
 
 -- ---- a byte of a line: LF ends it; a 513th byte is used, and closes the session, nothing written
 
@@ -30,25 +23,23 @@ pushed s b = record { mode = s .mode; «line_len» = s .«line_len» + 1; line =
 abbrev pub obeyed : Session → Turn
 obeyed s = if s .mode =? 0 then heard (lineSoFar s) else dataHeard (s .terms) (lineSoFar s)
 
-abbrev pub feedLine : Session → List ℕ → ℕ → Fed Both Happening
-feedLine s pl b =
-    if b =? 10 then turns (obeyed s) pl
-    else if s .«line_len» <? 512 then quiet (both (pushed s b) pl)
-    else turns (closing [] 1) pl
+abbrev pub feedLine : Session → ℕ → Fed Session Happening
+feedLine s b =
+    if b =? 10 then turns (obeyed s)
+    else if s .«line_len» <? 512 then quiet (pushed s b)
+    else turns (closing [] 1)
 
--- ---- a byte of a payload: it goes to its place in the buffer and into the running digest
+-- ---- a byte of a payload goes into the running digest, whatever the host did to the buffer
 
 abbrev pub taken : Session → ℕ → Session
 taken s b = record { mode = s .mode; «line_len» = s .«line_len»; line = s .line; terms = s .terms; got = s .got + 1; hash = fed (s .hash) b }
 
-abbrev pub feedPayload : Session → List ℕ → ℕ → Fed Both Happening
-feedPayload s pl b =
-    if s .got + 1 <? s .terms .len then quiet (both (taken s b) (set pl (s .got) b))
-    else turns (completed (s .terms) (fed (s .hash) b)) (set pl (s .got) b)
+abbrev pub feedPayload : Session → ℕ → Fed Session Happening
+feedPayload s b = if s .got + 1 <? s .terms .len then quiet (taken s b) else turns (completed (s .terms) (fed (s .hash) b))
 
 -- ---- a byte, by the session's mode; a closed session takes none
-unfoldable pub feed : Both → ℕ → Fed Both Happening
-feed x b =
-    if x .session .mode =? 2 then feedPayload (x .session) (x .payload) b
-    else if x .session .mode =? 3 then quiet x
-    else feedLine (x .session) (x .payload) b
+unfoldable pub feed : Session → ℕ → Fed Session Happening
+feed s b =
+    if s .mode =? 2 then feedPayload s b
+    else if s .mode =? 3 then quiet s
+    else feedLine s b

@@ -2,22 +2,17 @@
 use mathlib.Core.Bool.{Bool}
 use lib.ListN.{length, drop}
 use Rattle.octets.specs.Words.{if_then_else_, _and_, every, _<?_, _≤?_, _=?_}
-use Rattle.refusals.specs.Numbers.{longestPayload}
-use Rattle.envelope.specs.Rules.{idIn}
-use Rattle.talk.specs.declared.Terms.{Terms}
 use Rattle.talk.specs.declared.Session.{Session}
+use Rattle.talk.specs.Sessions.{keepsTerms}
 
 -- the line so far has at most 512 bytes, and none while a payload comes or once the session is closed; zeros stand past it
 unfoldable pub keepsLine : Session → Bool
 keepsLine s = s .«line_len» ≤? (if s .mode <? 2 then 512 else 0) and every (λ x. x =? 0) (drop (s .«line_len») (s .line))
 
--- an id is a number of 28 bits; no payload is longer than 4,096 bytes
-unfoldable pub keepsTerms : Terms → Bool
-keepsTerms t = idIn (t .id) and t .len ≤? longestPayload
-
 -- while a payload comes, a byte of it is still to come; else none has come
 unfoldable pub keepsPayload : Session → Bool
 keepsPayload s = if s .mode =? 2 then s .got <? s .terms .len else s .got =? 0
 
+-- an offer's numbers are those that an offer may have (talk, keepsTerms)
 unfoldable pub keepsSession : Session → Bool
 keepsSession s = s .mode ≤? 3 and (length (s .line) =? 512 and (keepsLine s and (keepsTerms (s .terms) and keepsPayload s)))

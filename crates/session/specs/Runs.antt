@@ -1,47 +1,31 @@
--- What a run of quiet bytes comes to. No public promise cites this file.
+-- What the private functions promise one another. No public promise cites this file.
 use mathlib.Core.Path.{_≡_}
-use Prim.Native.Nat.{ℕ, zero, suc, _+_}
-use mathlib.Core.List.{List, [], _∷_}
-use lib.ListN.{length}
-use Rattle.octets.specs.Words.{if_then_else_, _=?_}
-use Rattle.octets.specs.Bytes.{front, placed}
-use Rattle.sha1.specs.Machine.{fedAll}
+use Prim.Native.Nat.{ℕ, _-_, _≤_, _<_}
+use mathlib.Core.List.{List}
+use lib.ListN.{length, drop, getD}
+use Rattle.octets.specs.Bytes.{front}
 use Rattle.machine.specs.Machine.{run}
 use Rattle.talk.specs.declared.Session.{Session}
-use Rattle.talk.specs.declared.Said.{Said}
+use Rattle.talk.specs.Answer.{Telling}
 use Rattle.talk.specs.Talk.{nothing}
-use Rattle.session.specs.declared.Step.{Step}
-use Rattle.session.specs.declared.Stepping.{Stepping}
-use Rattle.session.specs.Feed.{both, feed}
-use Rattle.session.specs.Calls.{went}
+use Rattle.session.specs.Answer as answer
+use Rattle.session.specs.Feed.{feed}
+use Rattle.session.specs.Calls.{made}
 
--- how many bytes stand before the first LF, up to `most`
-unfoldable pub quietLength : ℕ → List ℕ → ℕ
-quietLength zero s = 0
-quietLength (suc m) [] = 0
-quietLength (suc m) (b ∷ s) = if b =? 10 then 0 else suc (quietLength m s)
+-- what was said of a whole line or a whole payload, as a step's record
+abbrev pub spoken : ℕ → Telling → answer.Record
+spoken used t = record { answer = answer.made; used = used; happening = t .happening; written = t .written; next = t .next }
 
--- the session after more bytes of a line, and of a payload
-abbrev pub filled : Session → List ℕ → Session
-filled s bs = record {
-  mode = s .mode;
-  «line_len» = s .«line_len» + length bs;
-  line = placed bs (s .«line_len») (s .line);
-  terms = s .terms;
-  got = s .got;
-  hash = s .hash;
-}
+-- quiet bytes of a line were taken in: what feeding the piece comes to is what feeding the rest of it to r comes to, and the byte after them
+-- ends the line, or is a 513th
+pub record Gathered (s : Session) (piece : List ℕ) (r : Session) : Type 0 where
+  pub from : s .«line_len» ≤ r .«line_len»
+  pub to : r .«line_len» ≤ 512
+  pub within : r .«line_len» - s .«line_len» ≤ length piece
+  pub mode : r .mode ≡ s .mode
+  pub same : run feed nothing 0 s piece ≡ run feed nothing (r .«line_len» - s .«line_len») r (drop (r .«line_len» - s .«line_len») piece)
+  pub stops : r .«line_len» - s .«line_len» < length piece → (getD piece (r .«line_len» - s .«line_len») 0 ≡ 10 → ⊥) → r .«line_len» ≡ 512
 
-abbrev pub received : Session → List ℕ → Session
-received s bs = record { mode = s .mode; «line_len» = s .«line_len»; line = s .line; terms = s .terms; got = s .got + length bs; hash = fedAll (s .hash) bs }
-
--- what was said of a whole line or a whole payload, as a step
-abbrev pub spoken : ℕ → Said → Step
-spoken used r = record { stepping = Stepping.Went; used = used; event = r .event; written = r .written; line = r .line; session = r .session }
-
--- the answer r, and the two buffers after a call, are what feeding the piece comes to
-abbrev pub Answers : Session → List ℕ → List ℕ → Step → List ℕ → List ℕ → List ℕ → Type 0
-Answers s pl piece r payload reply replyAfter =
-    (r ≡ went (run feed nothing 0 (both s pl) piece) .answer)
-    × (payload ≡ went (run feed nothing 0 (both s pl) piece) .payload)
-    × (replyAfter ≡ front (run feed nothing 0 (both s pl) piece .reply) reply)
+-- the record r and the reply buffer after a call are what feeding the piece comes to
+abbrev pub Answers : Session → List ℕ → answer.Record → List ℕ → List ℕ → Type 0
+Answers s piece r reply replyAfter = (r ≡ made (run feed nothing 0 s piece)) × (replyAfter ≡ front (run feed nothing 0 s piece .reply) reply)

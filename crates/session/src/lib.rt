@@ -2,6 +2,7 @@
 ghost use mathlib.Core.Path.{_≡_};
 ghost use lib.ListN.{length};
 ghost use Rattle.octets.specs.Bytes.{front};
+ghost use Rattle.session.specs.Answer.{says, openedSays};
 ghost use Rattle.session.specs.Calls.{stepOf, openOf, openReply};
 
 mod pieces;
@@ -39,7 +40,7 @@ pub const LONGEST_REPLY: usize = 24;
 
 // Opens a session: the prompt is written.
 pub fn open_session(reply: &mut [u8]) -> Opened
-    ensures { λ r. ⌜ (r ≡ openOf (length (now (reply .entry)))) × (now (reply .exit) ≡ front (openReply (length (now (reply .entry)))) (now (reply .entry))) ⌝ }
+    ensures { λ r. ⌜ (openedSays r ≡ openOf (length (now (reply .entry)))) × (now (reply .exit) ≡ front (openReply (length (now (reply .entry)))) (now (reply .entry))) ⌝ }
 {
     if reply.len() < LONGEST_REPLY {
         let session = talk::closed();
@@ -62,7 +63,7 @@ pub fn open_session(reply: &mut [u8]) -> Opened
 
 // Feeds a piece of the peer's bytes, up to the end of a line or of a payload.
 pub fn feed(s: Session, piece: &[u8], payload: &mut [u8], reply: &mut [u8]) -> Step
-    ensures { λ r. ⌜ (r ≡ stepOf s (now (piece .entry)) (now (payload .entry)) (length (now (reply .entry))) .answer) × (now (payload .exit) ≡ stepOf s (now (piece .entry)) (now (payload .entry)) (length (now (reply .entry))) .payload) × (now (reply .exit) ≡ front (stepOf s (now (piece .entry)) (now (payload .entry)) (length (now (reply .entry))) .reply) (now (reply .entry))) ⌝ }
+    ensures { λ r. ⌜ (says r ≡ stepOf s (now (piece .entry)) (now (payload .entry)) (length (now (reply .entry))) .told) × (now (payload .exit) ≡ stepOf s (now (piece .entry)) (now (payload .entry)) (length (now (reply .entry))) .payload) × (now (reply .exit) ≡ front (stepOf s (now (piece .entry)) (now (payload .entry)) (length (now (reply .entry))) .reply) (now (reply .entry))) ⌝ }
 {
     if !rules::keep_rules(s) {
         return pieces::refuse(s, refusals::STATE_BROKEN);
@@ -71,10 +72,7 @@ pub fn feed(s: Session, piece: &[u8], payload: &mut [u8], reply: &mut [u8]) -> S
     if mode == 3 {
         return pieces::refuse(s, refusals::SESSION_CLOSED);
     }
-    if payload.len() < refusals::LONGEST_PAYLOAD {
-        return pieces::refuse(s, refusals::BUFFER_TOO_SHORT);
-    }
-    if reply.len() < LONGEST_REPLY {
+    if rules::too_short(payload.len(), reply.len()) {
         return pieces::refuse(s, refusals::BUFFER_TOO_SHORT);
     }
     if mode == 2 {

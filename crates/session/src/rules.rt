@@ -1,72 +1,50 @@
-// The rules of a session (40).
+// What a call tests before it feeds a piece: the rules of a session (40), and the lent buffers (5).
 use talk::Session;
-use talk::Terms;
 ghost use mathlib.Core.Path.{_≡_};
-ghost use Rattle.octets.specs.Words.{every, _=?_};
-ghost use Rattle.session.specs.Rules.{keepsLine, keepsTerms, keepsPayload, keepsSession};
+ghost use Rattle.octets.specs.Words.{if_then_else_, _or_, _<?_};
+ghost use Rattle.refusals.specs.Numbers.{longestPayload};
+ghost use Rattle.session.specs.Calls.{longestReply};
+ghost use Rattle.session.specs.Rules.{keepsSession};
 
-fn are_zeros(s: &[u8]) -> bool
-    ensures { λ r. ⌜ r ≡ every (λ x. x =? 0) (now (s .entry)) ⌝ }
+// The longest line that a mode may have.
+fn longest_line(mode: u8) -> usize
+    ensures { λ r. ⌜ r ≡ (if mode <? 2 then 512 else 0) ⌝ }
 {
-    let mut i = 0;
-    while i < s.len() {
-        if s[i] != 0 {
-            return false;
-        }
-        i += 1;
+    if mode < 2 {
+        return 512;
     }
-    true
+    0
 }
 
-fn line_kept(s: Session) -> bool
-    ensures { λ r. ⌜ r ≡ keepsLine s ⌝ }
+pub(crate) fn keep_rules(s: Session) -> bool
+    ensures { λ r. ⌜ r ≡ keepsSession s ⌝ }
 {
     let n = s.line_len;
-    if s.mode < 2 {
-        if 512 < n {
-            return false;
-        }
-        let line = s.line;
-        return are_zeros(&line[n..]);
-    }
-    if 0 < n {
+    if 3 < s.mode {
         return false;
     }
-    let line = s.line;
-    are_zeros(&line[n..])
-}
-
-fn terms_kept(t: Terms) -> bool
-    ensures { λ r. ⌜ r ≡ keepsTerms t ⌝ }
-{
-    if 268435455 < t.id {
+    if longest_line(s.mode) < n {
         return false;
     }
-    t.len as usize <= refusals::LONGEST_PAYLOAD
-}
-
-fn payload_kept(s: Session) -> bool
-    ensures { λ r. ⌜ r ≡ keepsPayload s ⌝ }
-{
+    if !lengths::zero_from(&s.line, n) {
+        return false;
+    }
     let t = s.terms;
+    if !talk::keep_rules(t) {
+        return false;
+    }
     if s.mode == 2 {
         return s.got < t.len as usize;
     }
     s.got == 0
 }
 
-pub(crate) fn keep_rules(s: Session) -> bool
-    ensures { λ r. ⌜ r ≡ keepsSession s ⌝ }
+// Whether a lent buffer is too short (5).
+pub(crate) fn too_short(payload: usize, reply: usize) -> bool
+    ensures { λ r. ⌜ r ≡ (payload <? longestPayload or reply <? longestReply) ⌝ }
 {
-    if 3 < s.mode {
-        return false;
+    if payload < refusals::LONGEST_PAYLOAD {
+        return true;
     }
-    if !line_kept(s) {
-        return false;
-    }
-    let t = s.terms;
-    if !terms_kept(t) {
-        return false;
-    }
-    payload_kept(s)
+    reply < crate::LONGEST_REPLY
 }

@@ -2,22 +2,22 @@
 -- It holds at every length; the standard itself gives digests to messages below 2^61 bytes.
 use mathlib.Core.List.{List, [], _∷_, _++_}
 use mathlib.Core.Path.{_≡_, refl, sym, ap, _∙_}
-use Prim.Native.Nat.{ℕ, suc, _+_, _-_, _*_, _/_, _%_, _^_, _≤_, _<_}
+use Prim.Native.Nat.{ℕ, suc, _+_, _-_, _*_, _/_, _%_, _^_, _≤_}
 use native.Mathlib.Omega.{arith}
 use lib.Pow.{field, mod-mod-pow}
 use lib.ListN.{length, length-append, length-replicate}
 use lib.Seq.{take-all}
 use Rattle.sha1.specs.declared.Sha1.{Sha1}
 use Rattle.sha1_block.specs.Block.{chain}
-use Rattle.sha1.specs.Sha1.{initial, zeros, big64, padding, sha1}
-use Rattle.sha1.specs.Machine.{fresh, fedAll, fedPieces, joined, finished}
+use Rattle.sha1.specs.Sha1.{initial, padZeros, big64, padding, sha1}
+use Rattle.sha1.specs.Machine.{fresh, fedAll, fedPieces, concatenated, finished}
 use Rattle.sha1.proofs.Feed.{parts, whole, counted}
 
 -- ---- the padding
 
 -- the number of zeros is the standard's: the length and the mark end eight bytes before a block's end, and no fewer would do
-pub zeros-right : (n : ℕ) → ((n + 1 + zeros n) % 64 ≡ 56) × (zeros n < 64)
-zeros-right n = (omega arith, omega arith)
+pub zeros-right : (n : ℕ) → ((n + 1 + padZeros n) % 64 ≡ 56) × ((k : ℕ) → (n + 1 + k) % 64 ≡ 56 → padZeros n ≤ k)
+zeros-right n = (omega arith, λ k e. omega arith)
 
 -- the byte j bits up of a number modulo 2^64 is that of the number
 digit : (y i j : ℕ) → y % 2 ^ (i + 8 + j) / 2 ^ j % 256 ≡ y / 2 ^ j % 256
@@ -42,7 +42,7 @@ module _ (s : List ℕ) where
 
   blocks : (length padded % 64 ≡ 0) × (64 ≤ length padded)
   unfolding padded padding
-  blocks = let e : length (s ++ padding (length s)) ≡ length s + suc (zeros (length s) + 8) = simp (length-append, length-replicate) in (omega arith, omega arith)
+  blocks = let e : length (s ++ padding (length s)) ≡ length s + suc (padZeros (length s) + 8) = simp (length-append, length-replicate) in (omega arith, omega arith)
 
   pub digest : finished (fedAll fresh s) ≡ sha1 s
   unfolding padded sha1
@@ -61,9 +61,9 @@ module _ (s : List ℕ) where
 
 -- ---- pieces
 
-pieces : (st : Sha1) (ps : List (List ℕ)) → fedPieces st ps ≡ fedAll st (joined ps)
+pieces : (st : Sha1) (ps : List (List ℕ)) → fedPieces st ps ≡ fedAll st (concatenated ps)
 pieces st [] = refl
-pieces st (p ∷ ps) = pieces (fedAll st p) ps ∙ sym (parts st p (joined ps))
+pieces st (p ∷ ps) = pieces (fedAll st p) ps ∙ sym (parts st p (concatenated ps))
 
-pub any-pieces : (ps : List (List ℕ)) → finished (fedPieces fresh ps) ≡ sha1 (joined ps)
-any-pieces ps = ap finished (pieces fresh ps) ∙ digest (joined ps)
+pub any-pieces : (ps : List (List ℕ)) → finished (fedPieces fresh ps) ≡ sha1 (concatenated ps)
+any-pieces ps = ap finished (pieces fresh ps) ∙ digest (concatenated ps)

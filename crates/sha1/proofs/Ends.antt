@@ -7,7 +7,7 @@ use lib.ListN.{length, take, drop, replicate, length-take, length-drop, length-r
 use lib.Seq.{take-all}
 use Rattle.sha1_block.specs.declared.Hash.{Hash}
 use Rattle.sha1.specs.declared.Sha1.{Sha1}
-use Rattle.sha1.specs.Sha1.{zeros, big64, padding}
+use Rattle.sha1.specs.Sha1.{padZeros, big64, padding}
 use Rattle.sha1.specs.Machine.{fedAll, finished}
 use Rattle.sha1.proofs.Feed.{parts, counted}
 
@@ -98,7 +98,7 @@ module _ (st one : Sha1) (h : Hash) where
   pub end-short : st .total % 64 < 56 → one ≡ fedAll st (marks (56 - st .total % 64 - 1)) → h ≡ fedAll one (big64 (8 * st .total)) .h → h ≡ finished st
   unfolding padding
   end-short k p q =
-      let z : zeros (st .total) ≡ 56 - st .total % 64 - 1 = omega arith in
+      let z : padZeros (st .total) ≡ 56 - st .total % 64 - 1 = omega arith in
       let m = marks (56 - st .total % 64 - 1) in
       let w : padding (st .total) ≡ m ++ big64 (8 * st .total) = rw z in
       q ∙ ap (λ st′. fedAll st′ (big64 (8 * st .total)) .h) p ∙ ap (λ st. st .h) (sym (ap (fedAll st) w ∙ parts st m (big64 (8 * st .total))))
@@ -109,7 +109,7 @@ module _ (st one : Sha1) (h : Hash) where
   unfolding padding
   end-long two k p q r =
       let n = 64 - st .total % 64 - 1 in
-      let z : zeros (st .total) ≡ n + 56 = omega arith in
+      let z : padZeros (st .total) ≡ n + 56 = omega arith in
       let m = marks n in
       let l = big64 (8 * st .total) in
       let w : padding (st .total) ≡ m ++ (replicate 56 0 ++ l) = rw (z, ← replicate-append-replicate {A = ℕ} n 56 0, append-assoc (replicate n 0) (replicate 56 0) l) in

@@ -20,11 +20,10 @@ use Rattle.text.proofs.Hexes.{hex-back}
 use Rattle.sha1_block.specs.declared.Hash.{Hash}
 use Rattle.sha1.specs.declared.Sha1.{Sha1}
 use Rattle.sha1.specs.declared.Salt.{Salt}
-use Rattle.sha1.specs.declared.IdAnswer.the-variants.{Is, Refused}
 use Rattle.sha1_block.specs.Block.{plus, compressed, chain}
 use Rattle.sha1.specs.Sha1.{initial, sha1}
-use Rattle.sha1.specs.Machine.{fresh, fedAll, fedPieces, joined, finished}
-use Rattle.sha1.specs.Id.{saltBytes, firstSeven, idNumber, messageId}
+use Rattle.sha1.specs.Machine.{fresh, fedAll, fedPieces, concatenated, finished}
+use Rattle.sha1.specs.Id.{saltBytes, firstSeven, idNumber, messageId, is, refused}
 use Rattle.sha1.proofs.Feed.{parts, over}
 use Rattle.sha1.proofs.AnyPieces.{digest, any-pieces}
 
@@ -52,13 +51,13 @@ pub sha1-written : (s : List ℕ) → hexDigits 7 (idNumber (sha1 s)) ≡ firstS
 unfolding sha1
 sha1-written s = written (sha1 s) (chain-lt _ _)
 
-short-enough : (salt : Salt) (payload : List ℕ) → length payload ≤ longestPayload → Is (idNumber (sha1 (saltBytes salt ++ payload))) ≡ messageId salt payload
+short-enough : (salt : Salt) (payload : List ℕ) → length payload ≤ longestPayload → is (idNumber (sha1 (saltBytes salt ++ payload))) ≡ messageId salt payload
 short-enough salt payload k = sym (if-no _ _ _ (le-ltb longestPayload (length payload) k))
 
 -- a salt and then a payload in any pieces: the id is that of the payload as a whole
-pub id-of-pieces : (salt : Salt) (ps : List (List ℕ)) → length (joined ps) ≤ longestPayload
-    → Is (idNumber (finished (fedPieces (fedAll fresh (saltBytes salt)) ps))) ≡ messageId salt (joined ps)
-id-of-pieces salt ps k = ap (λ h. Is (idNumber h)) (any-pieces (saltBytes salt ∷ ps)) ∙ short-enough salt (joined ps) k
+pub id-of-pieces : (salt : Salt) (ps : List (List ℕ)) → length (concatenated ps) ≤ longestPayload
+    → is (idNumber (finished (fedPieces (fedAll fresh (saltBytes salt)) ps))) ≡ messageId salt (concatenated ps)
+id-of-pieces salt ps k = ap (λ h. is (idNumber h)) (any-pieces (saltBytes salt ∷ ps)) ∙ short-enough salt (concatenated ps) k
 
 -- ---- what the code makes
 
@@ -74,11 +73,11 @@ module _ (salt : Salt) where
       q ∙ ap (λ n. fedAll n bytes) p ∙ ap (fedAll fresh) (w ∙ sym (if-yes (salt .given) _ _ e))
 
   module _ (payload : List ℕ) where
-    pub too-long : longestPayload < length payload → Refused payloadTooLong ≡ messageId salt payload
+    pub too-long : longestPayload < length payload → refused payloadTooLong ≡ messageId salt payload
     too-long k = sym (if-yes _ _ _ (lt-ltb longestPayload (length payload) k))
 
     pub whole-id : (n : ℕ) (begun st : Sha1) → length payload ≤ longestPayload → begun ≡ fedAll fresh (saltBytes salt) → st ≡ fedAll begun payload → n ≡ idNumber (finished st)
-        → Is n ≡ messageId salt payload
+        → is n ≡ messageId salt payload
     whole-id n begun st k p q e =
         let fed : st ≡ fedAll fresh (saltBytes salt ++ payload) = q ∙ ap (λ st. fedAll st payload) p ∙ sym (parts fresh (saltBytes salt) payload) in
-        ap Is (e ∙ ap (λ st. idNumber (finished st)) fed ∙ ap idNumber (digest (saltBytes salt ++ payload))) ∙ short-enough salt payload k
+        ap is (e ∙ ap (λ st. idNumber (finished st)) fed ∙ ap idNumber (digest (saltBytes salt ++ payload))) ∙ short-enough salt payload k

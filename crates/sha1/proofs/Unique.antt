@@ -1,20 +1,27 @@
 -- Every public function leaves one outcome and asks nothing.
-use mathlib.Core.Path.{refl, sym, _∙_}
+use mathlib.Core.Path.{_≡_, refl, sym, _∙_}
 use Rattle.octets.specs.Unique.{One, Free}
+use Rattle.sha1.specs.declared.IdAnswer.{IdAnswer}
+use Rattle.sha1.specs.Id.{says}
 use Rattle.sha1.proofs.Sha1.new.Kinds as new-kinds
 use Rattle.sha1.proofs.Sha1.new.Reads as new-reads
 use Rattle.sha1.proofs.Sha1.salted.Kinds as salted-kinds
 use Rattle.sha1.proofs.Sha1.salted.Reads as salted-reads
-use Rattle.sha1.proofs.Sha1.feed.Kinds as feed-kinds
-use Rattle.sha1.proofs.Sha1.feed.Reads as feed-reads
 use Rattle.sha1.proofs.Sha1.feed_all.Kinds as feed-all-kinds
 use Rattle.sha1.proofs.Sha1.feed_all.Reads as feed-all-reads
 use Rattle.sha1.proofs.Sha1.finish.Kinds as finish-kinds
 use Rattle.sha1.proofs.Sha1.finish.Reads as finish-reads
-use Rattle.sha1.proofs.Sha1.id.Kinds as id-kinds
-use Rattle.sha1.proofs.Sha1.id.Reads as id-reads
+use Rattle.sha1.proofs.Sha1.first_28_bits.Kinds as first-bits-kinds
+use Rattle.sha1.proofs.Sha1.first_28_bits.Reads as first-bits-reads
 use Rattle.sha1.proofs.message_id.Kinds as message-id-kinds
 use Rattle.sha1.proofs.message_id.Reads as message-id-reads
+
+-- what an answer says is said by that answer only
+one-id : (x y : IdAnswer) → says x ≡ says y → x ≡ y
+one-id (IdAnswer.Is m) (IdAnswer.Is n) e = cc
+one-id (IdAnswer.Is m) (IdAnswer.Refused n) e = cc
+one-id (IdAnswer.Refused m) (IdAnswer.Is n) e = cc
+one-id (IdAnswer.Refused m) (IdAnswer.Refused n) e = cc
 
 pub new-one : One 0 new-kinds.ps new-kinds.r new-reads.Post
 new-one κs a x y v w p q = (p ∙ sym q, refl)
@@ -28,12 +35,6 @@ salted-one κs a x y v w p q = (p ∙ sym q, refl)
 pub salted-free : Free 0 salted-kinds.ps salted-reads.Pre
 salted-free κs a = tt
 
-pub feed-one : One 0 feed-kinds.ps feed-kinds.r feed-reads.Post
-feed-one κs a x y v w p q = (p ∙ sym q, refl)
-
-pub feed-free : Free 0 feed-kinds.ps feed-reads.Pre
-feed-free κs a = tt
-
 pub feed-all-one : One 1 feed-all-kinds.ps feed-all-kinds.r feed-all-reads.Post
 feed-all-one κs a x y v w p q = (p ∙ sym q, refl)
 
@@ -46,14 +47,14 @@ finish-one κs a x y v w p q = (p ∙ sym q, refl)
 pub finish-free : Free 0 finish-kinds.ps finish-reads.Pre
 finish-free κs a = tt
 
-pub id-one : One 0 id-kinds.ps id-kinds.r id-reads.Post
-id-one κs a x y v w p q = (p ∙ sym q, refl)
+pub first-28-bits-one : One 0 first-bits-kinds.ps first-bits-kinds.r first-bits-reads.Post
+first-28-bits-one κs a x y v w p q = (p ∙ sym q, refl)
 
-pub id-free : Free 0 id-kinds.ps id-reads.Pre
-id-free κs a = tt
+pub first-28-bits-free : Free 0 first-bits-kinds.ps first-bits-reads.Pre
+first-28-bits-free κs a = tt
 
 pub message-id-one : One 1 message-id-kinds.ps message-id-kinds.r message-id-reads.Post
-message-id-one κs a x y v w p q = (p ∙ sym q, refl)
+message-id-one κs a x y v w p q = (one-id x y (p ∙ sym q), refl)
 
 pub message-id-free : Free 1 message-id-kinds.ps message-id-reads.Pre
 message-id-free κs a = tt

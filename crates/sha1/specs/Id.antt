@@ -10,7 +10,6 @@ use Rattle.text.specs.Hex.{hexDigits, hexValue}
 use Rattle.sha1_block.specs.declared.Hash.{Hash}
 use Rattle.sha1.specs.declared.Salt.{Salt}
 use Rattle.sha1.specs.declared.IdAnswer.{IdAnswer}
-use Rattle.sha1.specs.declared.IdAnswer.the-variants.{Is, Refused}
 use Rattle.sha1.specs.Sha1.{sha1}
 
 abbrev pub saltBytes : Salt → List ℕ
@@ -27,6 +26,15 @@ firstSeven h = take 7 (inHex h)
 abbrev pub idNumber : Hash → ℕ
 idNumber h = hexValue (firstSeven h)
 
+-- what is answered, in document 01's words: the id as a number of 28 bits, or the number of a refusal, for each case of the enum
+pub data Answer : Type 0 where
+  is : (id : ℕ) → Answer
+  refused : (number : ℕ) → Answer
+
+abbrev pub says : IdAnswer → Answer
+says (IdAnswer.Is n) = is n
+says (IdAnswer.Refused n) = refused n
+
 -- the answer for a payload as a whole
-abbrev pub messageId : Salt → List ℕ → IdAnswer
-messageId salt payload = if longestPayload <? length payload then Refused payloadTooLong else Is (idNumber (sha1 (saltBytes salt ++ payload)))
+abbrev pub messageId : Salt → List ℕ → Answer
+messageId salt payload = if longestPayload <? length payload then refused payloadTooLong else is (idNumber (sha1 (saltBytes salt ++ payload)))

@@ -34,6 +34,6 @@ abbrev pub fedPieces : Sha1 → List (List ℕ) → Sha1
 fedPieces st [] = st
 fedPieces st (p ∷ ps) = fedPieces (fedAll st p) ps
 
-abbrev pub joined : List (List ℕ) → List ℕ
-joined [] = []
-joined (p ∷ ps) = p ++ joined ps
+abbrev pub concatenated : List (List ℕ) → List ℕ
+concatenated [] = []
+concatenated (p ∷ ps) = p ++ concatenated ps

@@ -1,7 +1,7 @@
 // SHA-1 (FIPS 180-4) of a message that comes in pieces, and the message id.
 ghost use mathlib.Core.Path.{_≡_};
-ghost use Rattle.sha1.specs.Machine.{fresh, fed, fedAll, finished};
-ghost use Rattle.sha1.specs.Id.{saltBytes, idNumber, messageId};
+ghost use Rattle.sha1.specs.Machine.{fresh, fedAll, finished};
+ghost use Rattle.sha1.specs.Id.{saltBytes, idNumber, messageId, says};
 
 mod pieces;
 
@@ -56,14 +56,6 @@ impl Sha1 {
         Sha1::new().feed_all(&bytes)
     }
 
-    // One byte more.
-    pub fn feed(self, x: u8) -> Sha1
-        ensures { λ r. ⌜ r ≡ fed self x ⌝ }
-    {
-        let one = [x; 1];
-        pieces::put(self, &one)
-    }
-
     // More bytes. What fills the waiting block goes there; whole blocks after it are taken from the piece itself; the rest waits.
     pub fn feed_all(self, s: &[u8]) -> Sha1
         ensures { λ r. ⌜ r ≡ fedAll self (now (s .entry)) ⌝ }
@@ -84,11 +76,12 @@ impl Sha1 {
         if total % 64 < 56 {
             return pieces::close(pieces::mark(self, 56), total);
         }
-        pieces::close(pieces::zeros(pieces::mark(self, 64)), total)
+        let zeros = [0u8; 56];
+        pieces::close(pieces::put(pieces::mark(self, 64), &zeros), total)
     }
 
-    // The id of what was fed: the digest's first 28 bits.
-    pub fn id(self) -> u32
+    // The digest's first 28 bits: the id, where what was fed is a salt and a payload that has one.
+    pub fn first_28_bits(self) -> u32
         ensures { λ r. ⌜ r ≡ idNumber (finished self) ⌝ }
     {
         let h = self.finish();
@@ -98,10 +91,10 @@ impl Sha1 {
 
 // The id of a payload that is there as a whole.
 pub fn message_id(salt: Salt, payload: &[u8]) -> IdAnswer
-    ensures { λ r. ⌜ r ≡ messageId salt (now (payload .entry)) ⌝ }
+    ensures { λ r. ⌜ says r ≡ messageId salt (now (payload .entry)) ⌝ }
 {
     if refusals::LONGEST_PAYLOAD < payload.len() {
         return IdAnswer::Refused(refusals::PAYLOAD_TOO_LONG);
     }
-    IdAnswer::Is(Sha1::salted(salt).feed_all(payload).id())
+    IdAnswer::Is(Sha1::salted(salt).feed_all(payload).first_28_bits())
 }

@@ -67,31 +67,13 @@ pub(crate) fn mark(st: Sha1, to: usize) -> Sha1
     put(st, &bytes[0..n])
 }
 
-// Zeros up to the length's place, in a block of their own.
-pub(crate) fn zeros(st: Sha1) -> Sha1
-    requires { ⌜ st .total % 64 ≡ 0 ⌝ }
-    ensures { λ r. ⌜ r ≡ fedAll st (replicate 56 0) ⌝ }
-{
-    let bytes = [0u8; 56];
-    put(st, &bytes)
-}
-
-// The length ends the last block.
+// The length in bits of a message of `total` bytes, the highest byte first, ends the last block.
 pub(crate) fn close(st: Sha1, total: u64) -> Hash
     requires { ⌜ st .total % 64 ≡ 56 ⌝ }
     ensures { λ r. ⌜ r ≡ fedAll st (big64 (8 * total)) .h ⌝ }
 {
-    let bytes = length_bytes(total);
-    let end = put(st, &bytes);
-    end.h
-}
-
-// The length in bits of a message of `total` bytes, the highest byte first.
-fn length_bytes(total: u64) -> [u8; 8]
-    ensures { λ r. ⌜ r ≡ big64 (8 * total) ⌝ }
-{
     let bits = total << 3;
-    [
+    let bytes = [
         ((bits >> 56) % 256) as u8,
         ((bits >> 48) % 256) as u8,
         ((bits >> 40) % 256) as u8,
@@ -100,5 +82,7 @@ fn length_bytes(total: u64) -> [u8; 8]
         ((bits >> 16) % 256) as u8,
         ((bits >> 8) % 256) as u8,
         (bits % 256) as u8,
-    ]
+    ];
+    let end = put(st, &bytes);
+    end.h
 }

@@ -1,4 +1,4 @@
--- Worked examples, computed: the standard's "abc", the empty message, the standard's 56 bytes, whose padding takes a second block, and an id.
+-- Worked examples, computed: the standard's "abc", the empty message, the standard's 56 bytes, whose padding takes a second block, and two ids.
 use mathlib.Core.Bool.{true, false}
 use mathlib.Core.List.{List, [], _∷_, _++_}
 use mathlib.Core.Path.{_≡_, refl}
@@ -30,6 +30,11 @@ second-block = refl
 pub id-of-abc : idNumber (sha1 (saltBytes (record { given = false; value = pos 0 }) ++ (0x61 ∷ 0x62 ∷ 0x63 ∷ []))) ≡ 0xA9993E3
 unfolding quarter padding scheduled schedule round rounds plus compressed chain sha1 digits value
 id-of-abc = refl
+
+-- a salted id: the salt 1714982400000 and `hello`
+pub salted-id : idNumber (sha1 (saltBytes (record { given = true; value = pos 1714982400000 }) ++ (0x68 ∷ 0x65 ∷ 0x6C ∷ 0x6C ∷ 0x6F ∷ []))) ≡ 0xF628422
+unfolding littleBytes quarter padding scheduled schedule round rounds plus compressed chain sha1 digits value
+salted-id = refl
 
 -- a salt of -2
 pub salt-bytes : saltBytes (record { given = true; value = negsuc 1 }) ≡ 0xFE ∷ 0xFF ∷ 0xFF ∷ 0xFF ∷ 0xFF ∷ 0xFF ∷ 0xFF ∷ 0xFF ∷ []

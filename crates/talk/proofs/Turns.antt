@@ -1,14 +1,16 @@
 -- What the code says and returns is the turn that the definitions have.
-use mathlib.Core.Path.{_≡_, refl, sym, ap, _∙_, subst}
+use mathlib.Core.Path.{_≡_, sym, ap, _∙_, subst}
 use Prim.Native.Nat.{ℕ}
-use mathlib.Core.Bool.{Bool, true, false}
-use mathlib.Core.List.{List, [], _++_}
+use mathlib.Core.Bool.{true, false}
+use mathlib.Core.List.{List, []}
 use lib.ListN.{replicate}
 use lib.IntN.{ℤ}
 use borrow.Author.Tests.{eq-eqb, ne-eqb}
-use Rattle.octets.specs.Words.{if_then_else_, _=?_}
+use Rattle.octets.specs.Words.{if_then_else_, _and_, _≤?_, _=?_}
 use Rattle.octets.specs.Bytes.{placed}
-use Rattle.octets.proofs.Tests.{if-yes, if-no}
+use Rattle.octets.proofs.Tests.{if-yes, if-no, and-both, and-next, and-not-left, and-not-right}
+use Rattle.refusals.specs.Numbers.{longestPayload}
+use Rattle.field_rules.specs.Rules.{idIn}
 use Rattle.sha1.specs.declared.Sha1.{Sha1}
 use Rattle.sha1.specs.Machine.{fresh, fedAll, finished}
 use Rattle.sha1.specs.Id.{saltBytes, idNumber}
@@ -19,29 +21,41 @@ use Rattle.line.specs.declared.LineAnswer.{LineAnswer}
 use Rattle.line.specs.declared.Reading.{Reading}
 use Rattle.line.specs.Reading.{blankLine, readOf}
 use Rattle.phrases.specs.declared.Kind.{Kind}
-use Rattle.phrases.specs.declared.Reply.{Reply}
 use Rattle.phrases.specs.Lines.{kindOf, isData}
-use Rattle.phrases.proofs.Joins as joins
-use Rattle.phrases.specs.Replies.{replyText, sends, acks, bads, wrote}
+use Rattle.phrases.specs.Replies.{acks, bads, wrote}
 use Rattle.talk.specs.declared.Terms.{Terms}
-use Rattle.talk.specs.declared.Event.{Event}
 use Rattle.talk.specs.declared.Session.{Session}
-use Rattle.talk.specs.declared.Said.{Said}
-use Rattle.talk.specs.Sessions.{termsOf, salted, listening, promised, receiving, closed}
-use Rattle.talk.specs.Talk.{Turn, nothing, message, closing, goingOn, offered, heardAs, heard, completed, dataHeard, saidIn}
+use Rattle.talk.specs.Answer.{Happened, Happening, Telling}
+use Rattle.talk.specs.Sessions.{termsOf, keepsTerms, salted, listening, receiving}
+use Rattle.talk.specs.Talk.{Turn, nothing, message, closing, goingOn, offered, heardAs, heard, completed, dataHeard, toldIn}
 
 -- what was said, and what the reply buffer then holds, are the turn's
-abbrev pub Says : Turn → List ℕ → Said → List ℕ → Type 0
-Says t buffer r after = (r ≡ saidIn t buffer) × (after ≡ placed (t .reply) 0 buffer)
+abbrev pub Says : Turn → List ℕ → Telling → List ℕ → Type 0
+Says t buffer r after = (r ≡ toldIn t buffer) × (after ≡ placed (t .reply) 0 buffer)
 
 -- from its parts
-pub says-by : (t : Turn) (buffer : List ℕ) (w : ℕ) (e : Event) (m : Line) (s : Session) (after : List ℕ) → e ≡ t .happening .event → m ≡ t .happening .line → s ≡ t .next
-    → (w ≡ wrote (t .reply) buffer) × (after ≡ placed (t .reply) 0 buffer) → Says t buffer (record { written = w; event = e; line = m; session = s }) after
-says-by t buffer w e m s after p q z k = (λ i. record { written = k .0 i; event = p i; line = q i; session = z i }, k .1)
+pub says-by : (t : Turn) (buffer : List ℕ) (w : ℕ) (e : Happened) (m : Line) (s : Session) (after : List ℕ) → e ≡ t .happening .what → m ≡ t .happening .line → s ≡ t .next
+    → (w ≡ wrote (t .reply) buffer) × (after ≡ placed (t .reply) 0 buffer) → Says t buffer (record { written = w; happening = record { what = e; line = m }; next = s }) after
+says-by t buffer w e m s after p q z k = (λ i. record { written = k .0 i; happening = record { what = p i; line = q i }; next = z i }, k .1)
 
 -- of a turn that is the same
-pub says-as : (t u : Turn) (buffer : List ℕ) (r : Said) (after : List ℕ) → u ≡ t → Says t buffer r after → Says u buffer r after
+pub says-as : (t u : Turn) (buffer : List ℕ) (r : Telling) (after : List ℕ) → u ≡ t → Says t buffer r after → Says u buffer r after
 says-as t u buffer r after e k = subst (λ (x : Turn). Says x buffer r after) (sym e) k
+
+-- and of one that leads to the same session
+pub says-next : (w : List ℕ) (h : Happening) (x y : Session) (buffer : List ℕ) (r : Telling) (after : List ℕ) → x ≡ y
+    → Says (record { reply = w; happening = h; next = x }) buffer r after → Says (record { reply = w; happening = h; next = y }) buffer r after
+says-next w h x y buffer r after e k = subst (λ (z : Session). Says (record { reply = w; happening = h; next = z }) buffer r after) e k
+
+-- ---- the numbers of an offer
+
+pub terms-id : (t : Terms) → idIn (t .id) ≡ false → keepsTerms t ≡ false
+unfolding keepsTerms
+terms-id t e = and-not-left _ _ e
+
+pub terms-rest : (t : Terms) → idIn (t .id) ≡ true → keepsTerms t ≡ (t .len ≤? longestPayload)
+unfolding keepsTerms
+terms-rest t e = and-next _ _ e
 
 -- ---- a whole payload
 
@@ -56,17 +70,21 @@ complete-wrong t h n p q = if-no _ _ _ (ne-eqb _ _ (λ e. q (p ∙ e)))
 -- ---- the line after `send`
 
 module _ (t : Terms) (s : List ℕ) where
+  pub data-never : keepsTerms t ≡ false → dataHeard t s ≡ closing [] 1
+  unfolding dataHeard
+  data-never e = if-no _ _ _ (and-not-left _ _ e)
+
   pub data-other : isData (t .id) s ≡ false → dataHeard t s ≡ closing [] 1
   unfolding dataHeard
-  data-other e = if-no _ _ _ e
+  data-other e = if-no _ _ _ (and-not-right (keepsTerms t) _ e)
 
-  pub data-none : (h : Sha1) → h ≡ salted t → isData (t .id) s ≡ true → t .len ≡ 0 → dataHeard t s ≡ completed t h
+  pub data-none : (h : Sha1) → h ≡ salted t → keepsTerms t ≡ true → isData (t .id) s ≡ true → t .len ≡ 0 → dataHeard t s ≡ completed t h
   unfolding dataHeard
-  data-none h q e z = if-yes _ _ _ e ∙ if-yes _ _ _ (eq-eqb _ _ z) ∙ ap (completed t) (sym q)
+  data-none h q k e z = if-yes _ _ _ (and-both _ _ k e) ∙ if-yes _ _ _ (eq-eqb _ _ z) ∙ ap (completed t) (sym q)
 
-  pub data-some : isData (t .id) s ≡ true → (t .len ≡ 0 → ⊥) → dataHeard t s ≡ record { reply = []; happening = nothing; next = receiving t }
+  pub data-some : keepsTerms t ≡ true → isData (t .id) s ≡ true → (t .len ≡ 0 → ⊥) → dataHeard t s ≡ record { reply = []; happening = nothing; next = receiving t }
   unfolding dataHeard
-  data-some e z = if-yes _ _ _ e ∙ if-no _ _ _ (ne-eqb _ _ z)
+  data-some k e z = if-yes _ _ _ (and-both _ _ k e) ∙ if-no _ _ _ (ne-eqb _ _ z)
 
 -- the salt's digest, where the salt's value came through a call
 pub salted-by : (t : Terms) (z : ℤ) (r : Sha1) → z ≡ t .salt → r ≡ fedAll fresh (saltBytes (record { given = t .«has_salt»; value = z })) → r ≡ salted t
@@ -81,29 +99,18 @@ pub blank-is : (e : Envelope) → e ≡ blankEnvelope → _≡_ {A = Line} (reco
 unfolding blankLine
 blank-is e q = λ i. record { len = 0; fields = q i }
 
--- the payload's beginning, by its digest
-pub entered-as : (t : Terms) (h : Sha1) (x : Session) → h ≡ salted t → x ≡ record { mode = 2; «line_len» = 0; line = replicate 512 0; terms = t; got = 0; hash = h } → x ≡ receiving t
-entered-as t h x e q = entered-is 2 t t h (salted t) x refl e q
-
 -- ---- an `ihave` line
 
--- the event carries the line's numbers
-pub promised-as : (m : Line) (t : Terms) (h : Sha1) (x : Session) → t ≡ termsOf m → h ≡ fresh → x ≡ record { mode = 1; «line_len» = 0; line = replicate 512 0; terms = t; got = 0; hash = h } → x ≡ promised (termsOf m)
-promised-as m t h x p q e = entered-is 1 t (termsOf m) h fresh x p q e
-
-pub said-id : (buffer : List ℕ) (n id w : ℕ) (after : List ℕ) → n ≡ id → (w ≡ wrote (sends n) buffer) × (after ≡ placed (sends n) 0 buffer) → (w ≡ wrote (sends id) buffer) × (after ≡ placed (sends id) 0 buffer)
-said-id buffer n id w after e k = subst (λ (i : ℕ). (w ≡ wrote (sends i) buffer) × (after ≡ placed (sends i) 0 buffer)) e k
+-- the event carries the line's numbers, where the salt's value came through a struct
+pub terms-by : (m : Line) (z : ℤ) → z ≡ m .fields .salt → _≡_ {A = Terms} (record { id = m .fields .id; «has_salt» = m .fields .«has_salt»; salt = z; len = m .len }) (termsOf m)
+terms-by m z e = λ i. record { id = m .fields .id; «has_salt» = m .fields .«has_salt»; salt = e i; len = m .len }
 
 -- the turn of what was read, where it is known which it is
-pub offered-as : (s buffer after : List ℕ) (a : LineAnswer) (x : Reading) (r : Said) → a ≡ readOf s → x ≡ a .reading → Says (offered s x (a .line)) buffer r after
+pub offered-as : (s buffer after : List ℕ) (a : LineAnswer) (x : Reading) (r : Telling) → a ≡ readOf s → x ≡ a .reading → Says (offered s x (a .line)) buffer r after
     → Says (offered s (readOf s .reading) (readOf s .line)) buffer r after
 offered-as s buffer after a x r p q k =
     subst (λ (y : LineAnswer). Says (offered s (y .reading) (y .line)) buffer r after) p (subst (λ (z : Reading). Says (offered s z (a .line)) buffer r after) q k)
 
-pub heard-as : (s buffer after : List ℕ) (k : Kind) (r : Said) → k ≡ kindOf s → (x : Kind) → k ≡ x → Says (heardAs x s) buffer r after → Says (heard s) buffer r after
+pub heard-as : (s buffer after : List ℕ) (k : Kind) (r : Telling) → k ≡ kindOf s → (x : Kind) → k ≡ x → Says (heardAs x s) buffer r after → Says (heard s) buffer r after
 unfolding heard
 heard-as s buffer after k r e x q h = subst (λ (y : Kind). Says (heardAs y s) buffer r after) (sym q ∙ e) h
-
--- nothing is said
-pub silent : (buffer : List ℕ) → (0 ≡ wrote [] buffer) × (buffer ≡ placed [] 0 buffer)
-silent buffer = joins.silent buffer

@@ -1,11 +1,13 @@
 -- Document 01, "The receiving session": the states that a session can be in.
 use Prim.Native.Nat.{ℕ}
-use mathlib.Core.Bool.{false}
+use mathlib.Core.Bool.{Bool, false}
 use mathlib.Core.List.{List}
 use lib.ListN.{replicate, take}
 use lib.IntN.{pos}
+use Rattle.octets.specs.Words.{_and_, _≤?_}
+use Rattle.refusals.specs.Numbers.{longestPayload}
+use Rattle.field_rules.specs.Rules.{idIn}
 use Rattle.sha1.specs.declared.Sha1.{Sha1}
-use Rattle.sha1.specs.declared.Salt.{Salt}
 use Rattle.sha1.specs.Machine.{fresh, fedAll}
 use Rattle.sha1.specs.Id.{saltBytes}
 use Rattle.line.specs.declared.Line.{Line}
@@ -18,6 +20,10 @@ termsOf m = record { id = m .fields .id; «has_salt» = m .fields .«has_salt»;
 
 abbrev pub noTerms : Terms
 noTerms = record { id = 0; «has_salt» = false; salt = pos 0; len = 0 }
+
+-- an id is a number of 28 bits; no payload is longer than 4,096 bytes
+unfoldable pub keepsTerms : Terms → Bool
+keepsTerms t = idIn (t .id) and t .len ≤? longestPayload
 
 -- the running digest where no byte of the payload was received: the salt, if there is one
 abbrev pub salted : Terms → Sha1

@@ -1,7 +1,7 @@
 -- Document 01, "The receiving session": what a whole line and a whole payload lead to: the reply, what happened, and the session after it.
 use Prim.Native.Nat.{ℕ}
 use mathlib.Core.List.{List, [], _++_}
-use Rattle.octets.specs.Words.{if_then_else_, _=?_}
+use Rattle.octets.specs.Words.{if_then_else_, _and_, _=?_}
 use Rattle.sha1.specs.declared.Sha1.{Sha1}
 use Rattle.sha1.specs.Machine.{finished}
 use Rattle.sha1.specs.Id.{idNumber}
@@ -12,27 +12,22 @@ use Rattle.phrases.specs.declared.Kind.{Kind}
 use Rattle.phrases.specs.Lines.{kindOf, isData, tokenOf}
 use Rattle.phrases.specs.Replies.{LF, 'error', sends, errs, acks, bads, bye, help, eh, wrote}
 use Rattle.talk.specs.declared.Terms.{Terms}
-use Rattle.talk.specs.declared.Event.{Event}
 use Rattle.talk.specs.declared.Session.{Session}
-use Rattle.talk.specs.declared.Said.{Said}
-use Rattle.talk.specs.Sessions.{termsOf, salted, listening, promised, receiving, closed}
-
--- an event, with the fields of the line where it is an offer
-pub record Happening : Type 0 where
-  pub event : Event
-  pub line : Line
+use Rattle.talk.specs.Answer.{Happening, Telling}
+use Rattle.talk.specs.Answer as what
+use Rattle.talk.specs.Sessions.{termsOf, keepsTerms, salted, listening, promised, receiving, closed}
 
 abbrev pub nothing : Happening
-nothing = record { event = Event.Nothing; line = blankLine }
+nothing = record { what = what.nothing; line = blankLine }
 
 abbrev pub offer : Line → Happening
-offer m = record { event = Event.Offer (termsOf m); line = m }
+offer m = record { what = what.offer (termsOf m); line = m }
 
 abbrev pub message : Terms → Happening
-message t = record { event = Event.Message t; line = blankLine }
+message t = record { what = what.message t; line = blankLine }
 
 abbrev pub ended : ℕ → Happening
-ended reason = record { event = Event.End reason; line = blankLine }
+ended reason = record { what = what.ended reason; line = blankLine }
 
 -- what is said, what happened, and the session after it
 pub record Turn : Type 0 where
@@ -72,14 +67,15 @@ heardAs Kind.Other s = goingOn eh
 unfoldable pub heard : List ℕ → Turn
 heard s = heardAs (kindOf s) s
 
--- ---- the line after `send`: `data ID`, the same id; else close, nothing written. `len=0` completes at the data line
+-- ---- the line after `send`: `data ID`, the same id; else close, nothing written. `len=0` completes at the data line. No line is the data of
+-- terms that no offer has
 
 unfoldable pub dataHeard : Terms → List ℕ → Turn
 dataHeard t s =
-    if isData (t .id) s then (if t .len =? 0 then completed t (salted t) else record { reply = []; happening = nothing; next = receiving t })
+    if keepsTerms t and isData (t .id) s then (if t .len =? 0 then completed t (salted t) else record { reply = []; happening = nothing; next = receiving t })
     else closing [] 1
 
--- ---- as the code has it: the reply stands at the front of a lent buffer
+-- ---- the reply stands at the front of a lent buffer
 
-abbrev pub saidIn : Turn → List ℕ → Said
-saidIn t buffer = record { written = wrote (t .reply) buffer; event = t .happening .event; line = t .happening .line; session = t .next }
+abbrev pub toldIn : Turn → List ℕ → Telling
+toldIn t buffer = record { written = wrote (t .reply) buffer; happening = t .happening; next = t .next }

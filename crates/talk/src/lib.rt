@@ -1,14 +1,17 @@
 // Document 01, "The receiving session": what a whole line and a whole payload lead to.
 ghost use mathlib.Core.Path.{_≡_};
 ghost use Rattle.octets.specs.Bytes.{placed};
-ghost use Rattle.talk.specs.Sessions.{listening, closed};
-ghost use Rattle.talk.specs.Talk.{completed, heard, dataHeard, saidIn};
+ghost use Rattle.line.specs.Reading.{blankLine};
+ghost use Rattle.talk.specs.Answer.{says};
+ghost use Rattle.talk.specs.Sessions.{keepsTerms, listening, closed};
+ghost use Rattle.talk.specs.Talk.{completed, heard, dataHeard, toldIn};
 
 mod lines;
 mod states;
 
 use line::Line;
 use phrases::Reply;
+use sha1::Salt;
 use sha1::Sha1;
 
 // The numbers of an offer: its id (28 bits), its salt where it has one, and the payload's length.
@@ -19,12 +22,17 @@ pub struct Terms {
     pub len: u32,
 }
 
-// What happened. An end has its reason: 0 after `bye`, 1 to 4 from a line, else 1.
+// Why a session ended: 0 after `bye`, 1 to 4 from a line, else 1.
+pub struct Ending {
+    pub reason: u8,
+}
+
+// What happened.
 pub enum Event {
     Nothing,
     Offer(Terms),
     Message(Terms),
-    End(u8),
+    End(Ending),
 }
 
 // Mode 0: between messages. 1: an offer waits for its data line. 2: its payload comes. 3: closed. The line so far is the first `line_len`
@@ -60,9 +68,27 @@ pub fn closed() -> Session
     states::entered(3, states::no_terms(), Sha1::new())
 }
 
+// The line of no offer.
+pub fn no_line() -> Line
+    ensures { λ r. ⌜ r ≡ blankLine ⌝ }
+{
+    let fields = envelope::blank();
+    Line { len: 0, fields }
+}
+
+// Whether an offer may have these numbers.
+pub fn keep_rules(t: Terms) -> bool
+    ensures { λ r. ⌜ r ≡ keepsTerms t ⌝ }
+{
+    if !field_rules::id_rule(t.id) {
+        return false;
+    }
+    t.len as usize <= refusals::LONGEST_PAYLOAD
+}
+
 // A line between messages.
 pub fn hear(s: &[u8], reply: &mut [u8]) -> Said
-    ensures { λ r. ⌜ (r ≡ saidIn (heard (now (s .entry))) (now (reply .entry))) × (now (reply .exit) ≡ placed (heard (now (s .entry)) .reply) 0 (now (reply .entry))) ⌝ }
+    ensures { λ r. ⌜ (says r ≡ toldIn (heard (now (s .entry))) (now (reply .entry))) × (now (reply .exit) ≡ placed (heard (now (s .entry)) .reply) 0 (now (reply .entry))) ⌝ }
 {
     let k = phrases::kind_of(s);
     match k {
@@ -76,48 +102,38 @@ pub fn hear(s: &[u8], reply: &mut [u8]) -> Said
 
 // The line after `send`.
 pub fn hear_data(terms: Terms, s: &[u8], reply: &mut [u8]) -> Said
-    ensures { λ r. ⌜ (r ≡ saidIn (dataHeard terms (now (s .entry))) (now (reply .entry))) × (now (reply .exit) ≡ placed (dataHeard terms (now (s .entry)) .reply) 0 (now (reply .entry))) ⌝ }
+    ensures { λ r. ⌜ (says r ≡ toldIn (dataHeard terms (now (s .entry))) (now (reply .entry))) × (now (reply .exit) ≡ placed (dataHeard terms (now (s .entry)) .reply) 0 (now (reply .entry))) ⌝ }
 {
+    if !keep_rules(terms) {
+        return lines::ends(Reply::Silence, b"", 1, reply);
+    }
     if !phrases::is_data(terms.id, s) {
         return lines::ends(Reply::Silence, s, 1, reply);
     }
-    let hash = states::salted(terms);
+    let hash = Sha1::salted(Salt {
+        given: terms.has_salt,
+        value: terms.salt,
+    });
     if terms.len == 0 {
         return complete(terms, hash, reply);
     }
     let session = states::entered(2, terms, hash);
-    let line = states::no_line();
-    Said {
-        written: 0,
-        event: Event::Nothing,
-        line,
-        session,
-    }
+    lines::tell(Reply::Silence, s, Event::Nothing, session, reply)
 }
 
 // A payload that is there as a whole, by its digest.
 pub fn complete(terms: Terms, hash: Sha1, reply: &mut [u8]) -> Said
-    ensures { λ r. ⌜ (r ≡ saidIn (completed terms hash) (now (reply .entry))) × (now (reply .exit) ≡ placed (completed terms hash .reply) 0 (now (reply .entry))) ⌝ }
+    ensures { λ r. ⌜ (says r ≡ toldIn (completed terms hash) (now (reply .entry))) × (now (reply .exit) ≡ placed (completed terms hash .reply) 0 (now (reply .entry))) ⌝ }
 {
-    let session = listening();
-    let line = states::no_line();
     let id = terms.id;
-    if hash.id() == id {
-        let written = phrases::say(Reply::Ack(id), b"", reply);
-        let event = Event::Message(terms);
-        return Said {
-            written,
-            event,
-            line,
-            session,
-        };
+    if hash.first_28_bits() != id {
+        return lines::goes_on(Reply::Bad(id), b"", reply);
     }
-    let written = phrases::say(Reply::Bad(id), b"", reply);
-    let event = Event::Nothing;
-    Said {
-        written,
-        event,
-        line,
-        session,
-    }
+    lines::tell(
+        Reply::Ack(id),
+        b"",
+        Event::Message(terms),
+        listening(),
+        reply,
+    )
 }

@@ -1,13 +1,10 @@
 // The states of a session, as they are entered.
 use crate::Session;
 use crate::Terms;
-use line::Line;
-use sha1::Salt;
 use sha1::Sha1;
 ghost use mathlib.Core.Path.{_≡_};
 ghost use lib.ListN.{replicate};
-ghost use Rattle.line.specs.Reading.{blankLine};
-ghost use Rattle.talk.specs.Sessions.{termsOf, noTerms, salted};
+ghost use Rattle.talk.specs.Sessions.{noTerms};
 
 pub(crate) fn no_terms() -> Terms
     ensures { λ r. ⌜ r ≡ noTerms ⌝ }
@@ -18,36 +15,6 @@ pub(crate) fn no_terms() -> Terms
         salt: 0,
         len: 0,
     }
-}
-
-pub(crate) fn terms_of(m: Line) -> Terms
-    ensures { λ r. ⌜ r ≡ termsOf m ⌝ }
-{
-    let fields = m.fields;
-    Terms {
-        id: fields.id,
-        has_salt: fields.has_salt,
-        salt: fields.salt,
-        len: m.len,
-    }
-}
-
-// The digest of the salt alone.
-pub(crate) fn salted(t: Terms) -> Sha1
-    ensures { λ r. ⌜ r ≡ salted t ⌝ }
-{
-    let salt = Salt {
-        given: t.has_salt,
-        value: t.salt,
-    };
-    Sha1::salted(salt)
-}
-
-pub(crate) fn no_line() -> Line
-    ensures { λ r. ⌜ r ≡ blankLine ⌝ }
-{
-    let fields = envelope::blank();
-    Line { len: 0, fields }
 }
 
 // A mode with no byte of a line and none of a payload.

@@ -14,7 +14,7 @@ returns-2 c =
     let at-args = c .before .before .before .before .before .args in
     let at-if1 = c .before .before .before .if1 in
     let at-salted = c .before .before .salted in
-    whole-id (at-args .salt) (at-args .payload .now) _ _ _ (at-if1 .left) (at-salted .ensures) (c .before .feed-all .ensures) (c .id .ensures)
+    whole-id (at-args .salt) (at-args .payload .now) _ _ _ (at-if1 .left) (at-salted .ensures) (c .before .feed-all .ensures) (c .first-28-bits .ensures)
 
 pub message-id-spec : {M : Type 1} → statement M
 message-id-spec =

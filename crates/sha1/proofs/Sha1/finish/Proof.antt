@@ -1,5 +1,6 @@
 -- The padding ends the waiting block, or the one after it.
 use mathlib.Core.Path.{refl}
+use native.Mathlib.Omega.{arith}
 use borrow.Author.Needs.{needs}
 use Rattle.sha1.proofs.Ends.{marked-to, zeros-to, end-short, end-long}
 use Rattle.sha1.proofs.Sha1.finish.Statement.{statement}
@@ -16,23 +17,24 @@ returns c =
     let at-mark = c .before .mark in
     end-short (at-args .self) (at-mark .result) _ (search needs) (at-mark .ensures) (c .close .ensures)
 
-zeros-requires : tie.Need-zeros-requires
-zeros-requires c κs =
-    let at-args = c .before .before .args in
-    marked-to (at-args .self) (c .mark2 .result) (search needs) 64 (search needs) (search needs) (c .mark2 .ensures)
+put-requires : tie.Need-put-requires
+put-requires c κs =
+    let at-args = c .before .before .before .args in
+    let at-mark2 = c .before .mark2 in
+    let z = marked-to (at-args .self) (at-mark2 .result) (search needs) 64 (search needs) (search needs) (at-mark2 .ensures) in omega (arith, z)
 
 close-requires-2 : tie.Need-close-requires-2
 close-requires-2 c κs =
-    let at-args = c .before .before .before .args in
-    let at-mark2 = c .before .mark2 in
-    zeros-to (at-args .self) (at-mark2 .result) (search needs) 64 (search needs) (search needs) (at-mark2 .ensures) refl (c .zeros .result) (c .zeros .ensures)
+    let at-args = c .before .before .before .before .args in
+    let at-mark2 = c .before .before .mark2 in
+    zeros-to (at-args .self) (at-mark2 .result) (search needs) 64 (search needs) (search needs) (at-mark2 .ensures) refl (c .put .result) (c .put .ensures)
 
 returns-2 : tie.Need-returns-2
 returns-2 c =
-    let at-args = c .before .before .before .before .args in
-    let at-mark2 = c .before .before .mark2 in
-    let at-zeros = c .before .zeros in
-    end-long (at-args .self) (at-mark2 .result) _ (at-zeros .result) (search needs) (at-mark2 .ensures) (at-zeros .ensures) (c .close2 .ensures)
+    let at-args = c .before .before .before .before .before .args in
+    let at-mark2 = c .before .before .before .mark2 in
+    let at-put = c .before .put in
+    end-long (at-args .self) (at-mark2 .result) _ (at-put .result) (search needs) (at-mark2 .ensures) (at-put .ensures) (c .close2 .ensures)
 
 pub finish-spec : {M : Type 1} → statement M
 finish-spec =
@@ -42,6 +44,7 @@ finish-spec =
     close-requires
     returns
     (λ c κs. search needs)
-    zeros-requires
+    (λ c. search needs)
+    put-requires
     close-requires-2
     returns-2)
