@@ -2,10 +2,9 @@
 use Prim.Native.Nat.{ℕ}
 use mathlib.Core.Bool.{false}
 use mathlib.Core.List.{List, []}
-use lib.ListN.{length, replicate}
+use lib.ListN.{length}
 use lib.IntN.{pos}
-use Rattle.headers.specs.declared.Headers.{Headers}
-pub use Rattle.held_texts.specs.Texts.{zeros, headerText}
+pub use Rattle.held_texts.specs.Texts.{zeros, headerText, noHeaders}
 unfoldable pub use Rattle.held_texts.specs.Texts.{fitted, padded, withHeader}
 use Rattle.envelope.specs.declared.CallText.{CallText}
 use Rattle.envelope.specs.declared.AddressText.{AddressText}
@@ -22,9 +21,6 @@ abbrev pub streamText : List ℕ → StreamText
 streamText s = record { len = length (fitted 255 s); bytes = padded 255 (fitted 255 s) }
 
 -- no message: every number 0, every flag clear, every text empty
-abbrev pub noHeaders : Headers
-noHeaders = record { items = replicate 8 (headerText [] []); count = 0 }
-
 unfoldable pub blankEnvelope : Envelope
 blankEnvelope = record {
   id = 0;

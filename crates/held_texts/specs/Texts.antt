@@ -27,6 +27,10 @@ headerText k v = record {
   «value_len» = length (fitted 128 v);
 }
 
+-- no headers: eight empty ones, of which none counts
+abbrev pub noHeaders : Headers
+noHeaders = record { items = replicate 8 (headerText [] []); count = 0 }
+
 -- the headers, and one more behind them; of eight there are no more
 unfoldable pub withHeader : Headers → Header → Headers
 withHeader h x = if 8 ≤? h .count then h else record { items = set (h .items) (h .count) x; count = h .count + 1 }

@@ -2,7 +2,7 @@
 ghost use mathlib.Core.Path.{_≡_};
 ghost use lib.ListN.{length};
 ghost use Rattle.octets.specs.Bytes.{front};
-ghost use Rattle.held_texts.specs.Texts.{fitted, headerText, withHeader};
+ghost use Rattle.held_texts.specs.Texts.{fitted, headerText, noHeaders, withHeader};
 use headers::Header;
 use headers::Headers;
 
@@ -28,6 +28,22 @@ pub fn header_text(key: &[u8], value: &[u8]) -> Header
         key_len,
         value: v,
         value_len,
+    }
+}
+
+// No headers: eight empty ones, of which none counts.
+pub fn no_headers() -> Headers
+    ensures { λ r. ⌜ r ≡ noHeaders ⌝ }
+{
+    let none = Header {
+        key: [0u8; 32],
+        key_len: 0,
+        value: [0u8; 128],
+        value_len: 0,
+    };
+    Headers {
+        items: [none; 8],
+        count: 0,
     }
 }
 

@@ -40,7 +40,7 @@ use Rattle.tokens.specs.Tokens.{Token, token, tokenOf, words, tokens, keys, giv
 use Rattle.line_values.specs.Values.{slash, isPart}
 use Rattle.line_groups.specs.Rules.{alike, 'p', 'd', deflated, payloadGood, singlesGood, fragmentGood, streamGood}
 use Rattle.line_groups.specs.Answers.{lenOf}
-use Rattle.line_headers.specs.Headers.{shortValue, headersFit, headerOf, headersOf}
+use Rattle.line_places.specs.Headers.{shortValue, headersFit, headerOf, headersOf}
 use Rattle.line.specs.Reading.{ihave, verbWord, idWord, restOf, plain, isText, framed, fieldsOf, lineOf, valuesGood, wellFormed, chkRight, refusalOf, readOf, answered}
 use Rattle.line.specs.Writing.{chosen, partText, choicesOf, headerToken, headerTokens, dstToken, tokensOf, bodyOf, chkToken, printOf, messageGood}
 use Rattle.line.specs.declared.Line.{Line}
@@ -130,7 +130,7 @@ all-is m =
     append-assoc (chosen (choicesOf m)) (headerTokens (m .fields .headers) ++ (dstToken m ∷ [])) (chkToken (bodyOf m) ∷ [])
     ∙ ap (λ (l : List Token). chosen (choicesOf m) ++ l) (append-assoc (headerTokens (m .fields .headers)) (dstToken m ∷ []) (chkToken (bodyOf m) ∷ []))
 
-body-print : (m : Line) (c : Token) → bodyOf m ++ spaced (wordOf c ∷ []) ≡ ihave ++ spaced (hexDigits 7 (m .fields .id) ∷ map wordOf (tokensOf m ++ (c ∷ [])))
+pub body-print : (m : Line) (c : Token) → bodyOf m ++ spaced (wordOf c ∷ []) ≡ ihave ++ spaced (hexDigits 7 (m .fields .id) ∷ map wordOf (tokensOf m ++ (c ∷ [])))
 unfolding bodyOf
 body-print m c =
     append-assoc ihave (spaced (hexDigits 7 (m .fields .id) ∷ map wordOf (tokensOf m))) (spaced (wordOf c ∷ []))
