@@ -4,8 +4,8 @@ use crate::out;
 use crate::values;
 use crate::words;
 use line::Line;
-use line::Reading;
-use line_writer::Writing;
+use line::LineReading;
+use line_writer::LineWriting;
 
 // The answer of whichever command of this file the line is.
 pub(crate) fn answer(line: &[u8], out: &mut [u8]) -> usize {
@@ -34,8 +34,8 @@ fn line_command(line: &[u8], out: &mut [u8]) -> usize {
     let reading = r.reading;
     let m = r.line;
     match reading {
-        Reading::Refused(number) => out::refused(out, number),
-        Reading::Read => put_read(out, m),
+        LineReading::Refused(number) => out::refused(out, number),
+        LineReading::Read => put_read(out, m),
     }
 }
 
@@ -43,8 +43,8 @@ fn line_command(line: &[u8], out: &mut [u8]) -> usize {
 fn put_rewritten(out: &mut [u8], m: Line, room: &mut [u8]) -> usize {
     let w = line_writer::write_line(m, room);
     match w {
-        Writing::Refused(number) => fields::put_number(out, 0, b"unwritten ", number as u32),
-        Writing::Written(k) => fields::put_front(out, 0, b"rewritten ", room, k),
+        LineWriting::Refused(number) => fields::put_number(out, 0, b"unwritten ", number as u32),
+        LineWriting::Written(k) => fields::put_front(out, 0, b"rewritten ", room, k),
     }
 }
 
@@ -65,7 +65,7 @@ fn reline_command(line: &[u8], out: &mut [u8]) -> usize {
     let reading = r.reading;
     let m = r.line;
     match reading {
-        Reading::Refused(number) => out::refused(out, number),
-        Reading::Read => put_rewritten(out, m, &mut room[0..k]),
+        LineReading::Refused(number) => out::refused(out, number),
+        LineReading::Read => put_rewritten(out, m, &mut room[0..k]),
     }
 }

@@ -18,7 +18,7 @@ use Rattle.sha1.specs.declared.Sha1.{Sha1}
 use Rattle.sha1.specs.Machine.{fed, finished}
 use Rattle.sha1.specs.Id.{idNumber}
 use Rattle.line.specs.declared.Line.{Line}
-use Rattle.line.specs.declared.Reading.{Reading}
+use Rattle.line.specs.Reading.{Reading}
 use Rattle.line.specs.Reading.{idWord, restOf, isText, framed, valuesGood, wellFormed, chkRight, fieldsOf, lineOf, refusalOf, answered, readOf}
 use Rattle.line_groups.specs.Rules.{deflated}
 use Rattle.line_groups.specs.Answers.{lenOf}

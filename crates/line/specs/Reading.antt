@@ -19,7 +19,7 @@ unfoldable pub use Rattle.line_frame.specs.Frame.{plain, isText, framed}
 unfoldable pub use Rattle.line_fields.specs.Fields.{fieldsOf}
 use Rattle.line.specs.declared.Line.{Line}
 use Rattle.line.specs.declared.LineAnswer.{LineAnswer}
-use Rattle.line.specs.declared.Reading.the-variants.{Read, Refused}
+use Rattle.line.specs.declared.LineReading.{LineReading}
 
 -- ---- what the line says
 
@@ -53,14 +53,32 @@ refusalOf s =
     else if longestPayload <? lenOf (tokens (restOf s)) then payloadTooLong
     else 0
 
--- ---- the answer: the line, or the number of a refusal beside the blank line
+-- ---- the answer, in this paper's words: its number and values for each case of the answer's enum
+
+-- read; refused, with the number of document 01's table
+pub data Reading : Type 0 where
+  Read : Reading
+  Refused : (number : ℕ) → Reading
+
+-- what a reading leaves: that, and the line, which is blank in a refusal
+pub record Outcome : Type 0 where
+  pub reading : Reading
+  pub line : Line
+
+abbrev pub readingSays : LineReading → Reading
+readingSays LineReading.Read = Read
+readingSays (LineReading.Refused n) = Refused n
+
+abbrev pub says : LineAnswer → Outcome
+says r = record { reading = readingSays (r .reading); line = r .line }
 
 unfoldable pub blankLine : Line
 blankLine = record { len = 0; fields = blankEnvelope }
 
-abbrev pub answered : ℕ → Line → LineAnswer
+-- by the number that refuses the line
+abbrev pub answered : ℕ → Line → Outcome
 answered zero m = record { reading = Read; line = m }
 answered (suc n) m = record { reading = Refused (suc n); line = blankLine }
 
-unfoldable pub readOf : List ℕ → LineAnswer
+unfoldable pub readOf : List ℕ → Outcome
 readOf s = answered (refusalOf s) (lineOf s)

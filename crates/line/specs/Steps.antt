@@ -7,11 +7,11 @@ use Rattle.octets.specs.Words.{if_then_else_, _=?_}
 use Rattle.crc16.specs.Crc.{crc16}
 use Rattle.line.specs.Reading.{blankLine}
 use Rattle.line.specs.declared.LineAnswer.{LineAnswer}
-use Rattle.line.specs.declared.Reading.the-variants.{Refused}
+use Rattle.line.specs.declared.LineReading.{LineReading}
 
 -- a check, where there is one, against the line
 unfoldable pub rightChk : List ℕ → Bool → ℕ → Bool
 rightChk s has chk = if has then crc16 (take (length s - 9) s) =? chk else true
 
 abbrev pub refusedBy : ℕ → LineAnswer
-refusedBy n = record { reading = Refused n; line = blankLine }
+refusedBy n = record { reading = LineReading.Refused n; line = blankLine }

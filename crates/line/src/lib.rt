@@ -3,7 +3,7 @@
 use envelope::Envelope;
 ghost use mathlib.Core.Path.{_≡_};
 ghost use Prim.Native.Nat.{_-_, _≤_};
-ghost use Rattle.line.specs.Reading.{readOf};
+ghost use Rattle.line.specs.Reading.{says, readOf};
 ghost use Rattle.line.specs.Steps.{rightChk, refusedBy};
 
 // An offer as the line has it: the payload's length, and the fields that a datagram has too.
@@ -13,14 +13,14 @@ pub struct Line {
 }
 
 // Whether a line was read; `Refused` has the paper's number.
-pub enum Reading {
+pub enum LineReading {
     Read,
     Refused(u8),
 }
 
 // In a refusal the line is blank: all zero, every flag clear.
 pub struct LineAnswer {
-    pub reading: Reading,
+    pub reading: LineReading,
     pub line: Line,
 }
 
@@ -30,7 +30,7 @@ fn refuse(number: u8) -> LineAnswer
     let fields = envelope::blank();
     let line = Line { len: 0, fields };
     LineAnswer {
-        reading: Reading::Refused(number),
+        reading: LineReading::Refused(number),
         line,
     }
 }
@@ -60,7 +60,7 @@ fn is_right(s: &[u8], has_chk: bool, chk: u16) -> bool
 
 // Reads a line, which is given without its LF.
 pub fn read_line(s: &[u8]) -> LineAnswer
-    ensures { λ r. ⌜ r ≡ readOf (now (s .entry)) ⌝ }
+    ensures { λ r. ⌜ says r ≡ readOf (now (s .entry)) ⌝ }
 {
     let id = line_frame::read_head(s);
     if !id.good {
@@ -88,7 +88,7 @@ pub fn read_line(s: &[u8]) -> LineAnswer
     }
     let line = Line { len: v.len, fields };
     LineAnswer {
-        reading: Reading::Read,
+        reading: LineReading::Read,
         line,
     }
 }

@@ -32,8 +32,7 @@ use Rattle.line_groups.specs.Answers.{lenOf}
 use Rattle.line_places.specs.Headers.{shortValue, headersFit, headerOf, headersOf}
 use Rattle.line.specs.Reading.{idWord, restOf, isText, framed, fieldsOf, lineOf, valuesGood, wellFormed, chkRight, refusalOf, answered, readOf}
 use Rattle.line.specs.declared.Line.{Line}
-use Rattle.line_writer.specs.Answer.{writeAnswer, writeLeft}
-use Rattle.line_writer.specs.declared.Writing.the-variants.{Written}
+use Rattle.line_writer.specs.Answer.{Written, writeAnswer, writeLeft}
 use Rattle.line_trip.proofs.Message.{Typed}
 use Rattle.line_trip.proofs.RoundTrip.{readBack}
 use Rattle.line_trip.proofs.Calls.{written-then-read}

@@ -18,8 +18,7 @@ use Rattle.tokens.specs.Tokens.{tokens, given, others}
 use Rattle.line.specs.Reading.{restOf, plain, isText, lineOf, refusalOf}
 use Rattle.line.specs.Writing.{printOf, written, messageGood, writeRefusal}
 use Rattle.line.specs.declared.Line.{Line}
-use Rattle.line_writer.specs.Answer.{answerBy, leftBy, writeAnswer, writeLeft}
-use Rattle.line_writer.specs.declared.Writing.the-variants.{Written}
+use Rattle.line_writer.specs.Answer.{Written, answerBy, leftBy, writeAnswer, writeLeft}
 use Rattle.line_trip.specs.Order.{InOrder}
 use Rattle.names.specs.Reserved.{reserved, reservedKeys}
 use Rattle.line_trip.proofs.Examples.{'with-chk', with-chk}

@@ -15,9 +15,7 @@ use Rattle.sha1.specs.Id.{saltBytes, idNumber}
 use Rattle.envelope.specs.declared.Envelope.{Envelope}
 use Rattle.envelope.specs.Texts.{blankEnvelope}
 use Rattle.line.specs.declared.Line.{Line}
-use Rattle.line.specs.declared.LineAnswer.{LineAnswer}
-use Rattle.line.specs.declared.Reading.{Reading}
-use Rattle.line.specs.Reading.{blankLine, readOf}
+use Rattle.line.specs.Reading.{blankLine, readOf, Outcome, Reading}
 use Rattle.phrases.specs.declared.Kind.{Kind}
 use Rattle.phrases.specs.declared.Reply.{Reply}
 use Rattle.phrases.specs.Lines.{kindOf, isData}
@@ -95,10 +93,10 @@ pub said-id : (buffer : List ℕ) (n id w : ℕ) (after : List ℕ) → n ≡ id
 said-id buffer n id w after e k = subst (λ (i : ℕ). (w ≡ wrote (sends i) buffer) × (after ≡ placed (sends i) 0 buffer)) e k
 
 -- the turn of what was read, where it is known which it is
-pub offered-as : (s buffer after : List ℕ) (a : LineAnswer) (x : Reading) (r : Said) → a ≡ readOf s → x ≡ a .reading → Says (offered s x (a .line)) buffer r after
+pub offered-as : (s buffer after : List ℕ) (a : Outcome) (x : Reading) (r : Said) → a ≡ readOf s → x ≡ a .reading → Says (offered s x (a .line)) buffer r after
     → Says (offered s (readOf s .reading) (readOf s .line)) buffer r after
 offered-as s buffer after a x r p q k =
-    subst (λ (y : LineAnswer). Says (offered s (y .reading) (y .line)) buffer r after) p (subst (λ (z : Reading). Says (offered s z (a .line)) buffer r after) q k)
+    subst (λ (y : Outcome). Says (offered s (y .reading) (y .line)) buffer r after) p (subst (λ (z : Reading). Says (offered s z (a .line)) buffer r after) q k)
 
 pub heard-as : (s buffer after : List ℕ) (k : Kind) (r : Said) → k ≡ kindOf s → (x : Kind) → k ≡ x → Says (heardAs x s) buffer r after → Says (heard s) buffer r after
 unfolding heard

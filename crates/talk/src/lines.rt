@@ -3,12 +3,12 @@ use crate::Event;
 use crate::Said;
 use crate::states;
 use line::Line;
-use line::Reading;
+use line::LineReading;
 use phrases::Reply;
 use sha1::Sha1;
 ghost use mathlib.Core.Path.{_≡_};
 ghost use Rattle.octets.specs.Bytes.{placed};
-ghost use Rattle.line.specs.declared.Reading.{Reading};
+ghost use Rattle.line.specs.Reading.{Reading};
 ghost use Rattle.line.specs.Reading.{readOf};
 ghost use Rattle.phrases.specs.Replies.{replyText};
 ghost use Rattle.talk.specs.Talk.{offered, closing, goingOn, saidIn};
@@ -53,8 +53,8 @@ pub(crate) fn hear_offer(s: &[u8], reply: &mut [u8]) -> Said
     let line = a.line;
     let reading = a.reading;
     match reading {
-        Reading::Refused(n) => ends(Reply::Error, s, n, reply),
-        Reading::Read => promise(line, s, reply),
+        LineReading::Refused(n) => ends(Reply::Error, s, n, reply),
+        LineReading::Read => promise(line, s, reply),
     }
 }
 

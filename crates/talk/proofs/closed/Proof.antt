@@ -1,6 +1,7 @@
 -- A closed session.
 use borrow.Author.Needs.{needs}
 use Rattle.talk.specs.Sessions.{noTerms}
+use Rattle.tokens.specs.Cuts.{before}
 use Rattle.talk.proofs.Turns.{entered-is}
 use Rattle.sha1.specs.Machine.{fresh}
 use Rattle.talk.proofs.closed.Statement.{statement}

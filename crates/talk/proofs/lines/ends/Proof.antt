@@ -3,6 +3,7 @@ use mathlib.Core.Path.{refl}
 use borrow.Author.Needs.{needs}
 use Rattle.phrases.specs.Replies.{replyText}
 use Rattle.talk.specs.Talk.{closing}
+use Rattle.tokens.specs.Cuts.{before}
 use Rattle.talk.proofs.Turns.{says-by}
 use Rattle.talk.proofs.lines.ends.Statement.{statement}
 use Rattle.talk.proofs.lines.ends.Tie as tie

@@ -4,6 +4,7 @@ use borrow.Author.Needs.{needs}
 use Rattle.phrases.specs.Replies.{replyText}
 use Rattle.talk.specs.Sessions.{listening}
 use Rattle.talk.specs.Talk.{goingOn}
+use Rattle.tokens.specs.Cuts.{before}
 use Rattle.talk.proofs.Turns.{says-by}
 use Rattle.talk.proofs.lines.goes_on.Statement.{statement}
 use Rattle.talk.proofs.lines.goes_on.Tie as tie

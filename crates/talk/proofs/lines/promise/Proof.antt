@@ -3,9 +3,10 @@ use mathlib.Core.Path.{refl, ap}
 use borrow.Author.Needs.{needs}
 use Rattle.phrases.specs.Replies.{replyText}
 use Rattle.talk.specs.Talk.{offered}
-use Rattle.line.specs.declared.Reading.{Reading}
+use Rattle.line.specs.Reading.{Reading}
 use Rattle.talk.specs.declared.Terms.{Terms}
 use Rattle.talk.specs.declared.Event.{Event}
+use Rattle.tokens.specs.Cuts.{before}
 use Rattle.talk.proofs.Turns.{says-by, promised-as, said-id}
 use Rattle.talk.proofs.lines.promise.Statement.{statement}
 use Rattle.talk.proofs.lines.promise.Tie as tie

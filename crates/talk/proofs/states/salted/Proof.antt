@@ -3,6 +3,7 @@ use borrow.Author.Needs.{needs}
 use mir.Syntax.{w64}
 use mir.Val.{toZ, ofZ}
 use mir.ValLaws.{toZ-ofZ}
+use Rattle.tokens.specs.Cuts.{before}
 use Rattle.talk.proofs.Turns.{salted-by}
 use Rattle.talk.proofs.states.salted.Statement.{statement}
 use Rattle.talk.proofs.states.salted.Tie as tie
