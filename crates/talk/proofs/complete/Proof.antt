@@ -18,9 +18,8 @@ returns c =
     let at-no-line = c .before .before .before .before .before .before .before .no-line in
     let at-listening = c .before .before .before .before .before .before .before .before .listening in
     let at-say = c .before .before .say in
-    
-     let t : Turn = record { reply = acks (at-args .terms .id); happening = message (at-args .terms); next = listening } in
-     says-as t (completed (at-args .terms) (at-args .hash)) (at-args .reply .now) _ _ (complete-right (at-args .terms) (at-args .hash) _ (at-id .ensures) (at-if1 .taken)) (says-by t (at-args .reply .now) _ _ _ _ _ refl (at-no-line .ensures) (at-listening .ensures) (at-say .ensures))
+    let t : Turn = record { reply = acks (at-args .terms .id); happening = message (at-args .terms); next = listening } in
+    says-as t (completed (at-args .terms) (at-args .hash)) (at-args .reply .now) _ _ (complete-right (at-args .terms) (at-args .hash) _ (at-id .ensures) (at-if1 .taken)) (says-by t (at-args .reply .now) _ _ _ _ _ refl (at-no-line .ensures) (at-listening .ensures) (at-say .ensures))
 
 returns-2 : tie.Need-returns-2
 unfolding replyText
@@ -31,9 +30,8 @@ returns-2 c =
     let at-no-line = c .before .before .before .before .before .before .before .no-line in
     let at-listening = c .before .before .before .before .before .before .before .before .listening in
     let at-say2 = c .before .before .say2 in
-    
-     let t : Turn = goingOn (bads (at-args .terms .id)) in
-     says-as t (completed (at-args .terms) (at-args .hash)) (at-args .reply .now) _ _ (complete-wrong (at-args .terms) (at-args .hash) _ (at-id .ensures) (at-if1 .left)) (says-by t (at-args .reply .now) _ _ _ _ _ refl (at-no-line .ensures) (at-listening .ensures) (at-say2 .ensures))
+    let t : Turn = goingOn (bads (at-args .terms .id)) in
+    says-as t (completed (at-args .terms) (at-args .hash)) (at-args .reply .now) _ _ (complete-wrong (at-args .terms) (at-args .hash) _ (at-id .ensures) (at-if1 .left)) (says-by t (at-args .reply .now) _ _ _ _ _ refl (at-no-line .ensures) (at-listening .ensures) (at-say2 .ensures))
 
 pub complete-spec : {M : Type 1} → statement M
 complete-spec =

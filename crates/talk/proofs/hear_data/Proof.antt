@@ -37,9 +37,8 @@ returns-3 c =
     let at-if1 = c .before .before .before .before .before .if1 in
     let at-if2 = c .before .before .if2 in
     let at-salted = c .before .before .before .before .salted in
-    
-     let t : Turn = record { reply = []; happening = nothing; next = receiving (at-args .terms) } in
-     says-as t (dataHeard (at-args .terms) (at-args .s .now)) (at-args .reply .now) _ _ (data-some (at-args .terms) (at-args .s .now) (sym (at-is-data .ensures) ∙ not-false _ (at-if1 .left)) (at-if2 .left)) (says-by t (at-args .reply .now) _ _ _ _ _ refl (c .no-line .ensures) (entered-as (at-args .terms) (at-salted .result) _ (at-salted .ensures) (c .before .entered .ensures)) (silent (at-args .reply .now)))
+    let t : Turn = record { reply = []; happening = nothing; next = receiving (at-args .terms) } in
+    says-as t (dataHeard (at-args .terms) (at-args .s .now)) (at-args .reply .now) _ _ (data-some (at-args .terms) (at-args .s .now) (sym (at-is-data .ensures) ∙ not-false _ (at-if1 .left)) (at-if2 .left)) (says-by t (at-args .reply .now) _ _ _ _ _ refl (c .no-line .ensures) (entered-as (at-args .terms) (at-salted .result) _ (at-salted .ensures) (c .before .entered .ensures)) (silent (at-args .reply .now)))
 
 pub hear-data-spec : {M : Type 1} → statement M
 hear-data-spec =
