@@ -1,17 +1,17 @@
 -- THEOREMS: what was read from an accepted line is valid and tidy; so if it is written, it is read back as the same message.
-use Prim.Native.Nat.{ℕ, zero, suc, _≤_, _<_, _^_, _-_}
+use Prim.Native.Nat.{ℕ, zero, suc, _≤_, _<_, _-_}
 use mathlib.Core.Path.{_≡_, refl, ap, sym, _∙_}
 use mathlib.Core.Bool.{Bool, true, false}
 use mathlib.Core.List.{List, [], _∷_, _++_, map}
 use native.Mathlib.Omega.{arith}
 use lib.ListN.{length, take, drop, replicate, length-append, length-drop, length-map, length-replicate}
 use lib.Seq.{take-at}
-use lib.IntN.{ℤ, pos, negℤ}
+use lib.IntN.{pos, negℤ}
 use mir.Syntax.{w64}
 use mir.Val.{SFits}
 use borrow.Author.Tests.{leb-true, ltb-true, ltb-false}
-use Rattle.octets.specs.Words.{if_then_else_, _and_, no, _<?_, _≤?_, every}
-use Rattle.octets.proofs.Tests.{and-left, and-right, if-yes, if-no, true-not-false}
+use Rattle.octets.specs.Words.{if_then_else_, _and_, no, _<?_, _≤?_}
+use Rattle.octets.proofs.Tests.{and-left, and-right, if-yes}
 use Rattle.refusals.specs.Numbers.{lineMalformed, chkDiffers, formatD, payloadTooLong, longestPayload}
 use Rattle.text.specs.Digits as digits
 use Rattle.text.specs.Decimal.{isDecimal, isNumber, number, isSigned, hasMinus, signed}
@@ -19,7 +19,6 @@ use Rattle.text.specs.Hex.{isHex, hexValue}
 use Rattle.names.specs.Reserved.{keyS, keyDst, keyChk, keyTtl, keySrc, keyMid, keyFrag, keySid, keySn, keyGt}
 use Rattle.headers.specs.Keys.{keyOf}
 use Rattle.headers.specs.Rule.{valueOf}
-use Rattle.headers.specs.declared.Header.{Header}
 use Rattle.envelope.specs.Texts.{fitted, padded, callText, addressText, streamText, headerText}
 use Rattle.envelope.specs.Rules.{envelope}
 use Rattle.envelope.specs.Tidy.{tidy, tidyHeader, tidyHeaders}
@@ -29,12 +28,10 @@ use Rattle.tokens.proofs.Lookups.{value-missing}
 use Rattle.line_values.specs.Values.{slash, isPart}
 use Rattle.line_groups.specs.Rules.{alike, optional, deflated, payloadGood, singlesGood, fragmentGood, streamGood}
 use Rattle.line_groups.specs.Answers.{lenOf}
-use Rattle.line_places.specs.Headers.{shortValue, headersFit, headerOf, headersOf}
+use Rattle.line_places.specs.Headers.{headersFit, headerOf, headersOf}
 use Rattle.line.specs.Reading.{idWord, restOf, isText, framed, fieldsOf, lineOf, valuesGood, wellFormed, chkRight, refusalOf, answered, readOf}
-use Rattle.line.specs.declared.Line.{Line}
 use Rattle.line_writer.specs.Answer.{Written, writeAnswer, writeLeft}
 use Rattle.line_trip.proofs.Message.{Typed}
-use Rattle.line_trip.proofs.RoundTrip.{readBack}
 use Rattle.line_trip.proofs.Calls.{written-then-read}
 
 -- ---- what an accepted line keeps

@@ -1,13 +1,13 @@
 -- THEOREMS of the calls: which messages `write_line` writes, and that an accepted line in the writer's order, with `chk`, comes back byte for
 -- byte, with its LF, at the front of the lent buffer.
 use Prim.Native.Nat.{ℕ, _+_, _≤_, _<_}
-use mathlib.Core.Path.{_≡_, refl, ap, sym, _∙_}
-use mathlib.Core.Bool.{true, false}
+use mathlib.Core.Path.{_≡_, refl, ap, _∙_}
+use mathlib.Core.Bool.{true}
 use mathlib.Core.List.{List, [], _∷_, _++_}
 use native.Mathlib.Omega.{arith}
 use borrow.Author.Tests.{le-leb, leb-true, le-ltb}
 use lib.ListN.{length, length-append}
-use Rattle.octets.specs.Words.{_and_, _<?_, _≤?_, every}
+use Rattle.octets.specs.Words.{_and_, _≤?_, every}
 use Rattle.octets.specs.Bytes.{front, same}
 use Rattle.octets.proofs.Tests.{and-both, and-left, if-no, no-true}
 use Rattle.utf8.specs.Utf8.{utf8}

@@ -1,17 +1,17 @@
 -- THEOREM: an accepted line in the writer's order, with `chk`, is written again byte for byte.
-use Prim.Native.Nat.{ℕ, zero, suc, _+_, _-_, _≤_, _<_}
+use Prim.Native.Nat.{ℕ, suc, _+_, _-_, _≤_}
 use mathlib.Core.Path.{_≡_, refl, ap, sym, _∙_}
 use mathlib.Core.Bool.{Bool, true, false}
 use mathlib.Core.List.{List, [], _∷_, _++_, map, append-assoc, append-nil}
 use native.Mathlib.Omega.{arith}
 use lib.ListN.{length, take, drop, replicate, length-append, length-map}
 use lib.Seq.{take-at}
-use borrow.Author.Tests.{eqb-true, eq-eqb, leb-true, le-leb}
+use borrow.Author.Tests.{eqb-true}
 use Rattle.octets.specs.Words.{if_then_else_, _and_, _or_, no, _=?_, _≤?_, every, some}
 use Rattle.octets.specs.Bytes.{same}
 use Rattle.octets.proofs.Lists.{same-eq, same-refl}
-use Rattle.octets.proofs.Tests.{and-left, and-right, and-both, if-yes, if-no, or-no, true-not-false}
-use Rattle.text.specs.Decimal.{isDecimal, isNumber, number, decimal, isSigned, signed, signedDecimal}
+use Rattle.octets.proofs.Tests.{and-left, and-right, if-yes, if-no, or-no, true-not-false}
+use Rattle.text.specs.Decimal.{isDecimal, isNumber, number, decimal, isSigned}
 use Rattle.text.specs.Hex.{isHex, hexValue, hexDigits}
 use Rattle.text.proofs.Decimals.{number-forth, signed-forth}
 use Rattle.text.proofs.Hexes.{hex-forth}
@@ -24,7 +24,7 @@ use Rattle.names.specs.Reserved.{reserved, keyLen, keyFmt, keyS, keyDst, keyChk
 use Rattle.headers.specs.Keys.{allDiffer, keyOf}
 use Rattle.headers.specs.Rule.{valueOf, header}
 use Rattle.tokens.specs.Cuts.{has, before, after, onto, split}
-use Rattle.tokens.specs.Tokens.{Token, token, tokenOf, words, tokens, keys, given, value, others, lastOnly, keyed, space, equals, wordOf, spaced}
+use Rattle.tokens.specs.Tokens.{Token, token, tokenOf, words, tokens, keys, given, value, others, keyed, space, equals, wordOf, spaced}
 use Rattle.tokens.proofs.Lookups.{value-missing}
 use Rattle.envelope.specs.Texts.{fitted, callText, addressText, streamText, headerText}
 use Rattle.envelope.specs.Rules.{callBytes, addressBytes, streamBytes, callIn, addressIn, streamIn}
