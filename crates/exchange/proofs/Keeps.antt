@@ -17,7 +17,7 @@ use Rattle.envelope.specs.declared.Envelope.{Envelope}
 use Rattle.sha1.specs.declared.Sha1.{Sha1}
 use Rattle.sha1.specs.Machine.{fed, finished}
 use Rattle.sha1.specs.Id.{idNumber}
-use Rattle.line.specs.declared.Reading.{Reading}
+use Rattle.line.specs.Reading.{Reading}
 use Rattle.line.specs.Reading.{restOf, isText, framed, valuesGood, wellFormed, chkRight, lineOf, refusalOf, answered, readOf}
 use Rattle.line_groups.specs.Rules.{deflated}
 use Rattle.line_groups.specs.Answers.{lenOf}

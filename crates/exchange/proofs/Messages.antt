@@ -25,7 +25,7 @@ use Rattle.sha1.specs.Id as ids
 use Rattle.sha1.proofs.Feed.{parts}
 use Rattle.sha1.proofs.Ids.{id-of-pieces}
 use Rattle.line.specs.declared.Line.{Line}
-use Rattle.line.specs.declared.Reading.{Reading}
+use Rattle.line.specs.Reading.{Reading}
 use Rattle.line.specs.Reading.{readOf}
 use Rattle.phrases.specs.declared.Kind.{Kind}
 use Rattle.phrases.specs.Lines.{kindOf, isData}

@@ -5,48 +5,23 @@ use mathlib.Core.List.{List}
 use lib.ListN.{length, take}
 use Rattle.octets.specs.Words.{if_then_else_, _and_, no, _<?_, _=?_}
 use Rattle.refusals.specs.Numbers.{lineMalformed, chkDiffers, formatD, payloadTooLong, longestPayload}
-use Rattle.text.specs.Decimal.{number, signed}
 use Rattle.text.specs.Hex.{hexValue}
-use Rattle.names.specs.Reserved.{keyS, keyDst, keyChk, keyTtl, keySrc, keyMid, keyFrag, keySid, keySn, keyGt}
+use Rattle.names.specs.Reserved.{keyChk}
 use Rattle.crc16.specs.Crc.{crc16}
-use Rattle.envelope.specs.Texts.{callText, addressText, streamText, blankEnvelope}
+use Rattle.envelope.specs.Texts.{blankEnvelope}
 use Rattle.envelope.specs.Rules.{envelope}
-use Rattle.envelope.specs.declared.Envelope.{Envelope}
-use Rattle.tokens.specs.Cuts.{before, after}
-use Rattle.tokens.specs.Tokens.{Token, tokens, given, value, others}
-use Rattle.line_values.specs.Values.{slash}
+use Rattle.tokens.specs.Tokens.{Token, tokens, given, value}
 use Rattle.line_groups.specs.Rules.{deflated, payloadGood, singlesGood, fragmentGood, streamGood}
 use Rattle.line_groups.specs.Answers.{lenOf}
-use Rattle.line_headers.specs.Headers.{headersFit, headersOf}
+use Rattle.line_places.specs.Headers.{headersFit}
 pub use Rattle.line_frame.specs.Frame.{ihave, verbWord, idWord, restOf}
 unfoldable pub use Rattle.line_frame.specs.Frame.{plain, isText, framed}
+unfoldable pub use Rattle.line_fields.specs.Fields.{fieldsOf}
 use Rattle.line.specs.declared.Line.{Line}
 use Rattle.line.specs.declared.LineAnswer.{LineAnswer}
-use Rattle.line.specs.declared.Reading.the-variants.{Read, Refused}
+use Rattle.line.specs.declared.LineReading.{LineReading}
 
 -- ---- what the line says
-
--- the fields, by the id and the tokens; the value of a key that is not there is empty, and spells 0
-unfoldable pub fieldsOf : ℕ → List Token → Envelope
-fieldsOf id ts = record {
-  id = id;
-  «has_salt» = given keyS ts;
-  salt = signed (value keyS ts);
-  «has_ttl» = given keyTtl ts;
-  ttl = number (value keyTtl ts);
-  «has_src» = given keySrc ts;
-  src = callText (value keySrc ts);
-  «has_fragment» = given keyMid ts;
-  mid = hexValue (value keyMid ts);
-  index = number (before slash (value keyFrag ts));
-  total = number (after slash (value keyFrag ts));
-  «has_stream» = given keySid ts;
-  sid = streamText (value keySid ts);
-  sn = number (value keySn ts);
-  gt = number (value keyGt ts);
-  headers = headersOf (others ts);
-  dst = addressText (value keyDst ts);
-}
 
 unfoldable pub lineOf : List ℕ → Line
 lineOf s = record { len = lenOf (tokens (restOf s)); fields = fieldsOf (hexValue (idWord s)) (tokens (restOf s)) }
@@ -78,14 +53,32 @@ refusalOf s =
     else if longestPayload <? lenOf (tokens (restOf s)) then payloadTooLong
     else 0
 
--- ---- the answer: the line, or the number of a refusal beside the blank line
+-- ---- the answer, in this paper's words: its number and values for each case of the answer's enum
+
+-- read; refused, with the number of document 01's table
+pub data Reading : Type 0 where
+  Read : Reading
+  Refused : (number : ℕ) → Reading
+
+-- what a reading leaves: that, and the line, which is blank in a refusal
+pub record Outcome : Type 0 where
+  pub reading : Reading
+  pub line : Line
+
+abbrev pub readingSays : LineReading → Reading
+readingSays LineReading.Read = Read
+readingSays (LineReading.Refused n) = Refused n
+
+abbrev pub says : LineAnswer → Outcome
+says r = record { reading = readingSays (r .reading); line = r .line }
 
 unfoldable pub blankLine : Line
 blankLine = record { len = 0; fields = blankEnvelope }
 
-abbrev pub answered : ℕ → Line → LineAnswer
+-- by the number that refuses the line
+abbrev pub answered : ℕ → Line → Outcome
 answered zero m = record { reading = Read; line = m }
 answered (suc n) m = record { reading = Refused (suc n); line = blankLine }
 
-unfoldable pub readOf : List ℕ → LineAnswer
+unfoldable pub readOf : List ℕ → Outcome
 readOf s = answered (refusalOf s) (lineOf s)

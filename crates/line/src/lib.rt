@@ -1,12 +1,10 @@
-// Document 01, "The ihave line": a line read. The line is cut into tokens, and each key is looked up among them, so that keys may come in
-// any order; the fields are then held to the rules that every message keeps (`envelope`).
+// Document 01, "The ihave line": a line read. Its tokens are read in one pass, so that keys may come in any order; the fields are then held to
+// the rules that every message keeps (`envelope`).
 use envelope::Envelope;
 ghost use mathlib.Core.Path.{_≡_};
 ghost use Prim.Native.Nat.{_-_, _≤_};
-ghost use Rattle.line.specs.Reading.{readOf};
+ghost use Rattle.line.specs.Reading.{says, readOf};
 ghost use Rattle.line.specs.Steps.{rightChk, refusedBy};
-
-mod values;
 
 // An offer as the line has it: the payload's length, and the fields that a datagram has too.
 pub struct Line {
@@ -15,14 +13,14 @@ pub struct Line {
 }
 
 // Whether a line was read; `Refused` has the paper's number.
-pub enum Reading {
+pub enum LineReading {
     Read,
     Refused(u8),
 }
 
 // In a refusal the line is blank: all zero, every flag clear.
 pub struct LineAnswer {
-    pub reading: Reading,
+    pub reading: LineReading,
     pub line: Line,
 }
 
@@ -32,7 +30,7 @@ fn refuse(number: u8) -> LineAnswer
     let fields = envelope::blank();
     let line = Line { len: 0, fields };
     LineAnswer {
-        reading: Reading::Refused(number),
+        reading: LineReading::Refused(number),
         line,
     }
 }
@@ -62,33 +60,35 @@ fn is_right(s: &[u8], has_chk: bool, chk: u16) -> bool
 
 // Reads a line, which is given without its LF.
 pub fn read_line(s: &[u8]) -> LineAnswer
-    ensures { λ r. ⌜ r ≡ readOf (now (s .entry)) ⌝ }
+    ensures { λ r. ⌜ says r ≡ readOf (now (s .entry)) ⌝ }
 {
-    if !line_frame::is_framed(s) {
+    let id = line_frame::read_head(s);
+    if !id.good {
         return refuse(refusals::LINE_MALFORMED);
     }
-    let id = line_frame::read_id(s);
-    let v = values::read_values(id.id, line_frame::rest(s));
+    let v = line_fields::read_values(id.id, line_frame::rest(s));
     if !v.good {
         return refuse(refusals::LINE_MALFORMED);
     }
     let fields = v.fields;
-    if !envelope::is_valid(fields) {
+    let valid = envelope::is_valid(fields);
+    let right = is_right(s, v.has_chk, v.chk);
+    let len = v.len as usize;
+    if !valid {
         return refuse(refusals::LINE_MALFORMED);
     }
-    if !is_right(s, v.has_chk, v.chk) {
+    if !right {
         return refuse(refusals::CHK_DIFFERS);
     }
     if v.deflated {
         return refuse(refusals::FORMAT_D);
     }
-    let len = v.len as usize;
     if len > refusals::LONGEST_PAYLOAD {
         return refuse(refusals::PAYLOAD_TOO_LONG);
     }
     let line = Line { len: v.len, fields };
     LineAnswer {
-        reading: Reading::Read,
+        reading: LineReading::Read,
         line,
     }
 }

@@ -1,14 +1,16 @@
 -- Document 01, "The ihave line": the line's text, its first two words, and the tokens behind them.
 use Prim.Native.Nat.{ℕ}
-use mathlib.Core.Bool.{Bool}
+use mathlib.Core.Bool.{Bool, false}
 use mathlib.Core.List.{List, [], _∷_}
 use lib.ListN.{length}
-use Rattle.octets.specs.Words.{_and_, no, _≤?_, _=?_, every}
+use Rattle.octets.specs.Words.{if_then_else_, _and_, no, _≤?_, _=?_, every}
 use Rattle.octets.specs.Bytes.{same}
 use Rattle.utf8.specs.Utf8.{utf8}
 use Rattle.text.specs.Hex.{isHex}
 use Rattle.tokens.specs.Cuts.{before, after}
 use Rattle.tokens.specs.Tokens.{keyed, space}
+use Rattle.line_values.specs.Values.{masterOf}
+use Rattle.line_values.specs.declared.Master.{Master}
 
 -- `ihave`
 abbrev pub ihave : List ℕ
@@ -35,3 +37,7 @@ isText s = length s ≤? 512 and (utf8 s and every plain s)
 -- no key twice; `chk`, if present, is last
 unfoldable pub framed : List ℕ → Bool
 framed s = same (verbWord s) ihave and (isHex 7 (idWord s) and keyed (restOf s))
+
+-- the id, where the bytes may be a line's and the first word is `ihave`
+unfoldable pub headOf : List ℕ → Master
+headOf s = if isText s and same (verbWord s) ihave then masterOf (idWord s) else record { good = false; id = 0 }

@@ -1,8 +1,8 @@
 // Document 01, "The ihave line": the line's text, its first two words, and the text of the tokens behind them.
+use line_values::Master;
 ghost use mathlib.Core.Path.{_≡_};
-ghost use Rattle.octets.specs.Words.{_and_, every};
-ghost use Rattle.line_values.specs.Values.{masterOf};
-ghost use Rattle.line_frame.specs.Frame.{plain, isText, framed, idWord, restOf};
+ghost use Rattle.octets.specs.Words.{every};
+ghost use Rattle.line_frame.specs.Frame.{plain, isText, headOf, restOf};
 
 // Whether no byte is below 0x20 and none is 0x7F.
 fn is_plain(s: &[u8]) -> bool
@@ -34,10 +34,16 @@ fn is_text(s: &[u8]) -> bool
     is_plain(s)
 }
 
-// The id, the second word.
-pub fn read_id(s: &[u8]) -> line_values::Master
-    ensures { λ r. ⌜ r ≡ masterOf (idWord (now (s .entry))) ⌝ }
+// The id, the second word, where the bytes may be a line's and the first word is `ihave`.
+pub fn read_head(s: &[u8]) -> Master
+    ensures { λ r. ⌜ r ≡ headOf (now (s .entry)) ⌝ }
 {
+    if !is_text(s) {
+        return Master { good: false, id: 0 };
+    }
+    if !octets::equal(tokens::before_byte(s, b' '), b"ihave") {
+        return Master { good: false, id: 0 };
+    }
     line_values::read_master(tokens::before_byte(tokens::after_byte(s, b' '), b' '))
 }
 
@@ -46,21 +52,4 @@ pub fn rest(s: &[u8]) -> &[u8]
     ensures { λ r. ⌜ now r ≡ restOf (now (s .entry)) ⌝ }
 {
     tokens::after_byte(tokens::after_byte(s, b' '), b' ')
-}
-
-// Whether the line is such a text: `ihave`, the id, and tokens whose keys keep their rules.
-pub fn is_framed(s: &[u8]) -> bool
-    ensures { λ r. ⌜ r ≡ (isText (now (s .entry)) and framed (now (s .entry))) ⌝ }
-{
-    if !is_text(s) {
-        return false;
-    }
-    if !octets::equal(tokens::before_byte(s, b' '), b"ihave") {
-        return false;
-    }
-    let id = read_id(s);
-    if !id.good {
-        return false;
-    }
-    tokens::are_keyed(rest(s))
 }

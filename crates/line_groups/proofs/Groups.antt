@@ -1,62 +1,30 @@
 -- The groups of keys: each early answer, and the values.
 use Prim.Native.Nat.{ℕ}
 use mathlib.Core.Path.{_≡_, refl, ap, sym, _∙_}
-use mathlib.Core.Bool.{Bool, true, false, not}
-use mathlib.Core.List.{List, []}
-use Rattle.octets.specs.Words.{_or_}
+use mathlib.Core.Bool.{Bool, true, false, not, Bool·beq}
+use mathlib.Core.List.{List}
+use lib.IntN.{ℤ}
+use Rattle.octets.specs.Words.{if_then_else_, _and_}
 use Rattle.octets.specs.Bytes.{same}
 use Rattle.octets.proofs.Lists.{same-eq}
-use Rattle.octets.proofs.Tests.{if-yes, if-no, and-both, and-not-left, and-not-right, or-left, or-next}
+use Rattle.octets.proofs.Tests.{if-yes, if-no, and-both, and-not-left, and-not-right, true-not-false}
 use Rattle.text.specs.Digits as digits
-use Rattle.text.specs.Decimal.{isNumber, number}
+use Rattle.text.specs.Decimal.{isNumber, number, isSigned, signed}
 use Rattle.text.specs.Hex.{isHex, hexValue}
-use Rattle.names.specs.Reserved.{keyLen, keyFmt, keyClen, keyMid, keyFrag, keySid, keySn, keyGt}
 use Rattle.tokens.specs.Cuts.{before, after}
-use Rattle.tokens.specs.Tokens.{Token, given, value}
-use Rattle.tokens.proofs.Lookups.{value-missing}
-use Rattle.line_groups.specs.Rules.{alike, optional, 'p', 'd', deflated, payloadGood, fragmentGood, streamGood}
-use Rattle.line_groups.specs.Answers.{lenOf, noPayload, plainPayload, payloadOf, noFragment, fragmentOf, noStream, streamOf}
-use Rattle.line_values.specs.Values.{slash, isPart, decimalOf, masterOf, partOf}
+use Rattle.line_values.specs.Values.{slash, isPart, decimalOf, masterOf, partOf, numberIf, saltIf, chkIf, textIf}
 use Rattle.line_values.specs.declared.Decimal.{Decimal}
+use Rattle.line_values.specs.declared.Salt.{Salt}
+use Rattle.line_values.specs.declared.Chk.{Chk}
 use Rattle.line_values.specs.declared.Master.{Master}
 use Rattle.line_values.specs.declared.Part.{Part}
+use Rattle.line_values.proofs.Single.{decimal-good, decimal-says, master-good, master-says, part-good, part-says, number-if-good, number-if-says, salt-if-good, salt-if-says, chk-if-good, chk-if-says}
+use Rattle.line_groups.specs.Rules.{kept, 'p', 'd'}
+use Rattle.line_groups.specs.Answers.{noPayload, plainPayload, payloadBy, noSingles, singlesBy, noFragment, fragmentBy, noStream, streamBy}
 use Rattle.line_groups.specs.declared.Payload.{Payload}
+use Rattle.line_groups.specs.declared.Singles.{Singles}
 use Rattle.line_groups.specs.declared.Fragment.{Fragment}
 use Rattle.line_groups.specs.declared.Stream.{Stream}
-use Rattle.line_values.proofs.Single.{decimal-good, decimal-says, master-good, master-says, part-good, part-says}
-
--- both there, one of them, none
-alike-yes : (a b : Bool) → a ≡ true → b ≡ true → alike a b ≡ true
-alike-yes a b p q = rw (p, q)
-
-alike-not : (a b : Bool) → a ≡ true → b ≡ false → alike a b ≡ false
-alike-not a b p q = rw (p, q)
-
-alike-other : (a b : Bool) → a ≡ false → b ≡ true → alike a b ≡ false
-alike-other a b p q = rw (p, q)
-
-alike-none : (a b : Bool) → a ≡ false → b ≡ false → alike a b ≡ true
-alike-none a b p q = rw (p, q)
-
--- answers whose parts are the same
-payload-same : (a b : ℕ) (c d : Bool) → a ≡ b → c ≡ d → _≡_ {A = Payload} (record { good = true; len = a; deflated = c }) (record { good = true; len = b; deflated = d })
-payload-same a b c d p q = rw (p, q)
-
-fragment-same : (g h : Bool) (a b c d e f : ℕ) → g ≡ h → a ≡ b → c ≡ d → e ≡ f
-    → _≡_ {A = Fragment} (record { good = true; given = g; mid = a; index = c; total = e }) (record { good = true; given = h; mid = b; index = d; total = f })
-fragment-same g h a b c d e f p q r s = rw (p, q, r, s)
-
-stream-same : (g h : Bool) (a b c d : ℕ) → g ≡ h → a ≡ b → c ≡ d
-    → _≡_ {A = Stream} (record { good = true; given = g; sn = a; gt = c }) (record { good = true; given = h; sn = b; gt = d })
-stream-same g h a b c d p q r = rw (p, q, r)
-
--- a number read from the value of a key
-module _ (limit : ℕ) (k : List ℕ) (ts : List Token) (w : List ℕ) (is-value : w ≡ value k ts) (n : Decimal) (read : n ≡ decimalOf limit w) where
-  pub keyed-number : n .good ≡ isNumber limit (value k ts)
-  keyed-number = decimal-good limit w n read ∙ ap (isNumber limit) is-value
-
-  pub keyed-spells : n .good ≡ true → n .number ≡ number (value k ts)
-  keyed-spells g = decimal-says limit w n read g ∙ ap number is-value
 
 -- ---- `len`, `fmt`, `clen`
 
@@ -64,216 +32,154 @@ not-deflated : (f : List ℕ) → same f 'p' ≡ true → same f 'd' ≡ false
 unfolding same
 not-deflated f e = rw (same-eq f 'p' e)
 
-module _ (ts : List Token) where
-  no-payload : payloadGood ts ≡ false → (r : Payload) → r ≡ noPayload → r ≡ payloadOf ts
-  unfolding payloadOf
-  no-payload e r q = q ∙ sym (if-no _ _ _ e)
+module _ (len fmt : List ℕ) (has : Bool) (clen : List ℕ) (n : Decimal) (read : n ≡ decimalOf 2147483647 len) where
+  pub payload-len : n .good ≡ false → (r : Payload) → r ≡ noPayload → r ≡ payloadBy len fmt has clen
+  unfolding payloadBy
+  payload-len e r q = q ∙ sym (if-no _ _ _ (and-not-left _ _ (sym (decimal-good 2147483647 len n read) ∙ e)))
 
-  module _ (w : List ℕ) (is-len : w ≡ value keyLen ts) (n : Decimal) (read : n ≡ decimalOf 2147483647 w) where
-    pub payload-len : n .good ≡ false → (r : Payload) → r ≡ noPayload → r ≡ payloadOf ts
-    unfolding payloadGood
-    payload-len e = no-payload (and-not-left _ _ (sym (keyed-number 2147483647 keyLen ts w is-len n read) ∙ e))
+  module _ (good : n .good ≡ true) where
+    len-good : isNumber 2147483647 len ≡ true
+    len-good = sym (decimal-good 2147483647 len n read) ∙ good
 
-    module _ (good : n .good ≡ true) (f : List ℕ) (is-fmt : f ≡ value keyFmt ts) where
-      len-good : isNumber 2147483647 (value keyLen ts) ≡ true
-      len-good = sym (keyed-number 2147483647 keyLen ts w is-len n read) ∙ good
+    len-says : n .number ≡ number len
+    len-says = decimal-says 2147483647 len n read good
 
-      len-says : n .number ≡ lenOf ts
-      len-says = keyed-spells 2147483647 keyLen ts w is-len n read good
+    -- `fmt=p`, with `clen` and without it
+    pub payload-plain : true ≡ same fmt 'p' → (r : Payload) → r ≡ plainPayload (n .number) has → r ≡ payloadBy len fmt has clen
+    unfolding payloadBy
+    payload-plain p r q = q ∙ rw (len-good, len-says, sym p, not-deflated fmt (sym p)) (go has)
+      where
+        go : (b : Bool) → plainPayload (number len) b ≡ (if (if b then false else true) and kept b (isNumber 2147483647) clen then record { good = true; len = number len; deflated = false } else noPayload)
+        go true = refl
+        go false = refl
 
-      is-format : (v : List ℕ) (b : Bool) → b ≡ same f v → same (value keyFmt ts) v ≡ b
-      is-format v b e = ap (λ (x : List ℕ). same x v) (sym is-fmt) ∙ sym e
+    -- `fmt=d`, or neither
+    module _ (not-p : false ≡ same fmt 'p') where
+      pub payload-format : false ≡ same fmt 'd' → (r : Payload) → r ≡ noPayload → r ≡ payloadBy len fmt has clen
+      unfolding payloadBy
+      payload-format e r q = q ∙ rw (len-good, sym not-p, sym e)
 
-      abbrev len-is : Bool
-      len-is = isNumber 2147483647 (value keyLen ts)
+      module _ (is-d : true ≡ same fmt 'd') where
+        pub payload-no-clen : has ≡ false → (r : Payload) → r ≡ noPayload → r ≡ payloadBy len fmt has clen
+        unfolding payloadBy
+        payload-no-clen g r q = q ∙ rw (len-good, sym not-p, sym is-d, g)
 
-      abbrev fmt-is : Bool
-      fmt-is = same (value keyFmt ts) 'p' or deflated ts
+        module _ (g : has ≡ true) (m : Decimal) (read-m : m ≡ decimalOf 2147483647 clen) where
+          pub payload-clen : m .good ≡ false → (r : Payload) → r ≡ noPayload → r ≡ payloadBy len fmt has clen
+          unfolding payloadBy
+          payload-clen e r q = q ∙ rw (len-good, sym not-p, sym is-d, g, sym (decimal-good 2147483647 clen m read-m) ∙ e)
 
-      -- `fmt=p`, with `clen` and without it
-      module _ (is-p : true ≡ same f 'p') where
-        plain : same (value keyFmt ts) 'p' ≡ true
-        plain = is-format 'p' true is-p
+          pub payload-deflated : m .good ≡ true → record { good = true; len = n .number; deflated = true } ≡ payloadBy len fmt has clen
+          unfolding payloadBy
+          payload-deflated e = rw (len-good, len-says, sym not-p, sym is-d, g, sym (decimal-good 2147483647 clen m read-m) ∙ e)
 
-        raw : deflated ts ≡ false
-        raw = not-deflated (value keyFmt ts) plain
+-- ---- `s`, `ttl` and `chk`
 
-        plain-with : given keyClen ts ≡ true → noPayload ≡ payloadOf ts
-        unfolding payloadGood
-        plain-with g = no-payload (and-not-right len-is _ (and-not-right fmt-is _ (and-not-left _ _ (alike-not (given keyClen ts) (deflated ts) g raw)))) noPayload refl
+module _ (hasS : Bool) (s : List ℕ) (hasTtl : Bool) (ttl : List ℕ) (hasChk : Bool) (chk : List ℕ) (x : Salt) (is-x : x ≡ saltIf hasS s) where
+  abbrev all : Singles
+  all = singlesBy hasS s hasTtl ttl hasChk chk
 
-        plain-without : given keyClen ts ≡ false → record { good = true; len = n .number; deflated = false } ≡ payloadOf ts
-        unfolding payloadGood payloadOf
-        plain-without g =
-            let k = and-both _ _ len-good (and-both _ _ (or-left _ _ plain) (and-both _ _ (alike-none (given keyClen ts) (deflated ts) g raw) (if-no (given keyClen ts) (isNumber 2147483647 (value keyClen ts)) true g))) in
-            payload-same _ _ _ _ len-says (sym raw) ∙ sym (if-yes _ _ _ k)
+  pub singles-s : x .good ≡ false → (r : Singles) → r ≡ noSingles → r ≡ all
+  unfolding singlesBy
+  singles-s e r q = q ∙ sym (if-no _ _ _ (and-not-left _ _ (sym (salt-if-good hasS s x is-x) ∙ e)))
 
-        pub payload-plain : (c : Bool) → c ≡ given keyClen ts → (r : Payload) → r ≡ plainPayload (n .number) c → r ≡ payloadOf ts
-        payload-plain true g r q = q ∙ plain-with (sym g)
-        payload-plain false g r q = q ∙ plain-without (sym g)
+  module _ (good-x : x .good ≡ true) (y : Decimal) (is-y : y ≡ numberIf 2147483647 hasTtl ttl) where
+    pub singles-ttl : y .good ≡ false → (r : Singles) → r ≡ noSingles → r ≡ all
+    unfolding singlesBy
+    singles-ttl e r q = q ∙ sym (if-no _ _ _ (and-not-right (kept hasS isSigned s) _ (and-not-left _ _ (sym (number-if-good hasTtl ttl 2147483647 y is-y) ∙ e))))
 
-      -- `fmt=d`, or neither
-      module _ (not-p : false ≡ same f 'p') where
-        pub payload-format : false ≡ same f 'd' → (r : Payload) → r ≡ noPayload → r ≡ payloadOf ts
-        unfolding payloadGood
-        payload-format e = no-payload (and-not-right len-is _ (and-not-left _ _ (or-next _ _ (is-format 'p' false not-p) ∙ is-format 'd' false e)))
+    module _ (good-y : y .good ≡ true) (z : Chk) (is-z : z ≡ chkIf hasChk chk) where
+      pub singles-chk : z .good ≡ false → (r : Singles) → r ≡ noSingles → r ≡ all
+      unfolding singlesBy
+      singles-chk e r q =
+          q ∙ sym (if-no _ _ _ (and-not-right (kept hasS isSigned s) _ (and-not-right (kept hasTtl (isNumber 2147483647) ttl) _ (sym (chk-if-good hasChk chk z is-z) ∙ e))))
 
-        module _ (is-d : true ≡ same f 'd') where
-          packed : deflated ts ≡ true
-          packed = is-format 'd' true is-d
-
-          pub payload-no-clen : given keyClen ts ≡ false → (r : Payload) → r ≡ noPayload → r ≡ payloadOf ts
-          unfolding payloadGood
-          payload-no-clen g = no-payload (and-not-right len-is _ (and-not-right fmt-is _ (and-not-left _ _ (alike-other (given keyClen ts) (deflated ts) g packed))))
-
-          module _ (g : given keyClen ts ≡ true) (v : List ℕ) (is-clen : v ≡ value keyClen ts) (m : Decimal) (read-m : m ≡ decimalOf 2147483647 v) where
-            pub payload-clen : m .good ≡ false → (r : Payload) → r ≡ noPayload → r ≡ payloadOf ts
-            unfolding payloadGood
-            payload-clen e =
-                no-payload (and-not-right len-is _ (and-not-right fmt-is _ (and-not-right (alike (given keyClen ts) (deflated ts)) _
-                (if-yes _ _ _ g ∙ sym (keyed-number 2147483647 keyClen ts v is-clen m read-m) ∙ e))))
-
-            pub payload-deflated : m .good ≡ true → record { good = true; len = n .number; deflated = true } ≡ payloadOf ts
-            unfolding payloadGood payloadOf
-            payload-deflated e =
-                let k = and-both _ _ len-good (and-both _ _ (or-next _ _ (is-format 'p' false not-p) ∙ packed) (and-both _ _ (alike-yes (given keyClen ts) (deflated ts) g packed)
-                (if-yes (given keyClen ts) (isNumber 2147483647 (value keyClen ts)) true g ∙ sym (keyed-number 2147483647 keyClen ts v is-clen m read-m) ∙ e))) in
-                payload-same _ _ _ _ len-says (sym packed) ∙ sym (if-yes _ _ _ k)
+      pub singles-all : z .good ≡ true → (v : ℤ) → v ≡ x .salt
+          → record { good = true; «has_salt» = hasS; salt = v; «has_ttl» = hasTtl; ttl = y .number; «has_chk» = hasChk; chk = z .chk } ≡ all
+      unfolding singlesBy
+      singles-all e v is-v =
+          rw (is-v ∙ salt-if-says hasS s x is-x good-x, number-if-says hasTtl ttl 2147483647 y is-y good-y, chk-if-says hasChk chk z is-z e)
+          (sym (if-yes _ _ _ (and-both _ _ (sym (salt-if-good hasS s x is-x) ∙ good-x) (and-both _ _ (sym (number-if-good hasTtl ttl 2147483647 y is-y) ∙ good-y) (sym (chk-if-good hasChk chk z is-z) ∙ e)))))
 
 -- ---- `mid` and `frag`
 
--- what an empty value says
-number-none : number [] ≡ 0
-unfolding digits.value
-number-none = refl
+module _ (mid frag : List ℕ) where
+  pub fragment-none : (hasMid hasFrag : Bool) → hasMid ≡ false → (r : Fragment) → r ≡ noFragment (not hasFrag) → r ≡ fragmentBy hasMid mid hasFrag frag
+  unfolding fragmentBy before after digits.value
+  fragment-none true hasFrag e r q = true-not-false true refl e
+  fragment-none false true e r q = q
+  fragment-none false false e r q = q
 
-hex-none : hexValue [] ≡ 0
-unfolding digits.value
-hex-none = refl
+  module _ (hasMid hasFrag : Bool) (m : hasMid ≡ true) where
+    pub fragment-lone : hasFrag ≡ false → (r : Fragment) → r ≡ noFragment false → r ≡ fragmentBy hasMid mid hasFrag frag
+    unfolding fragmentBy
+    fragment-lone g r q = q ∙ rw (m, g)
 
-module _ (ts : List Token) where
-  no-fragment : fragmentGood ts ≡ false → (r : Fragment) → r ≡ noFragment false → r ≡ fragmentOf ts
-  unfolding fragmentOf
-  no-fragment e r q = q ∙ sym (if-no _ _ _ e)
+    module _ (g : hasFrag ≡ true) (x : Master) (read-x : x ≡ masterOf mid) where
+      pub fragment-mid : x .good ≡ false → (r : Fragment) → r ≡ noFragment false → r ≡ fragmentBy hasMid mid hasFrag frag
+      unfolding fragmentBy
+      fragment-mid e r q = q ∙ rw (m, g, sym (master-good mid x read-x) ∙ e)
 
-  -- no `mid`: with `frag`, and without it
-  module _ (m : given keyMid ts ≡ false) where
-    lone-frag : given keyFrag ts ≡ true → noFragment false ≡ fragmentOf ts
-    unfolding fragmentGood
-    lone-frag g = no-fragment (and-not-left _ _ (alike-other (given keyMid ts) (given keyFrag ts) m g)) (noFragment false) refl
+      module _ (good-x : x .good ≡ true) (p : Part) (read-p : p ≡ partOf frag) where
+        pub fragment-frag : p .good ≡ false → (r : Fragment) → r ≡ noFragment false → r ≡ fragmentBy hasMid mid hasFrag frag
+        unfolding fragmentBy
+        fragment-frag e r q = q ∙ rw (m, g, sym (master-good mid x read-x) ∙ good-x, sym (part-good frag p read-p) ∙ e)
 
-    none-there : given keyFrag ts ≡ false → noFragment true ≡ fragmentOf ts
-    unfolding fragmentGood fragmentOf before after
-    none-there g =
-        let k = and-both _ _ (alike-none (given keyMid ts) (given keyFrag ts) m g) (and-both _ _ (if-no (given keyMid ts) (isHex 7 (value keyMid ts)) true m) (if-no (given keyFrag ts) (isPart (value keyFrag ts)) true g)) in
-        fragment-same _ _ _ _ _ _ _ _ (sym m) (sym (ap hexValue (value-missing keyMid ts m) ∙ hex-none))
-        (sym (ap (λ (v : List ℕ). number (before slash v)) (value-missing keyFrag ts g) ∙ number-none))
-        (sym (ap (λ (v : List ℕ). number (after slash v)) (value-missing keyFrag ts g) ∙ number-none))
-        ∙ sym (if-yes _ _ _ k)
-
-    pub fragment-none : (f : Bool) → f ≡ given keyFrag ts → (r : Fragment) → r ≡ noFragment (not f) → r ≡ fragmentOf ts
-    fragment-none true g r q = q ∙ lone-frag (sym g)
-    fragment-none false g r q = q ∙ none-there (sym g)
-
-  module _ (m : given keyMid ts ≡ true) where
-    pub fragment-lone : given keyFrag ts ≡ false → (r : Fragment) → r ≡ noFragment false → r ≡ fragmentOf ts
-    unfolding fragmentGood
-    fragment-lone g = no-fragment (and-not-left _ _ (alike-not (given keyMid ts) (given keyFrag ts) m g))
-
-    module _ (g : given keyFrag ts ≡ true) (w : List ℕ) (is-mid : w ≡ value keyMid ts) (x : Master) (read-x : x ≡ masterOf w) where
-      mid-good : x .good ≡ optional keyMid (isHex 7) ts
-      mid-good = master-good w x read-x ∙ ap (isHex 7) is-mid ∙ sym (if-yes _ _ _ m)
-
-      pub fragment-mid : x .good ≡ false → (r : Fragment) → r ≡ noFragment false → r ≡ fragmentOf ts
-      unfolding fragmentGood
-      fragment-mid e = no-fragment (and-not-right (alike (given keyMid ts) (given keyFrag ts)) _ (and-not-left _ _ (sym mid-good ∙ e)))
-
-      module _ (good-x : x .good ≡ true) (v : List ℕ) (is-frag : v ≡ value keyFrag ts) (p : Part) (read-p : p ≡ partOf v) where
-        frag-good : p .good ≡ optional keyFrag isPart ts
-        frag-good = part-good v p read-p ∙ ap isPart is-frag ∙ sym (if-yes _ _ _ g)
-
-        pub fragment-frag : p .good ≡ false → (r : Fragment) → r ≡ noFragment false → r ≡ fragmentOf ts
-        unfolding fragmentGood
-        fragment-frag e =
-            no-fragment (and-not-right (alike (given keyMid ts) (given keyFrag ts)) _ (and-not-right (optional keyMid (isHex 7) ts) _ (sym frag-good ∙ e)))
-
-        pub fragment-both : p .good ≡ true → record { good = true; given = true; mid = x .id; index = p .index; total = p .total } ≡ fragmentOf ts
-        unfolding fragmentGood fragmentOf
+        pub fragment-both : p .good ≡ true → record { good = true; given = true; mid = x .id; index = p .index; total = p .total } ≡ fragmentBy hasMid mid hasFrag frag
+        unfolding fragmentBy
         fragment-both e =
-            let k = and-both _ _ (alike-yes (given keyMid ts) (given keyFrag ts) m g) (and-both _ _ (sym mid-good ∙ good-x) (sym frag-good ∙ e)) in
-            let s = part-says v p read-p e in
-            fragment-same _ _ _ _ _ _ _ _ (sym m) (master-says w x read-x good-x ∙ ap hexValue is-mid)
-            (ap (λ (y : Part). y .index) s ∙ ap (λ (y : List ℕ). number (before slash y)) is-frag)
-            (ap (λ (y : Part). y .total) s ∙ ap (λ (y : List ℕ). number (after slash y)) is-frag)
-            ∙ sym (if-yes _ _ _ k)
+            let s = part-says frag p read-p e in
+            rw (m, g, sym (master-good mid x read-x) ∙ good-x, sym (part-good frag p read-p) ∙ e, master-says mid x read-x good-x, ap (λ (y : Part). y .index) s, ap (λ (y : Part). y .total) s)
 
 -- ---- `sid`, `sn` and `gt`
 
-module _ (ts : List Token) where
-  no-stream : streamGood ts ≡ false → (r : Stream) → r ≡ noStream false → r ≡ streamOf ts
-  unfolding streamOf
-  no-stream e r q = q ∙ sym (if-no _ _ _ e)
+-- two flags that the code finds alike
+pub told-alike : (a b : Bool) → not (Bool·beq a b) ≡ false → a ≡ b
+told-alike true true e = refl
+told-alike true false e = e
+told-alike false true e = sym e
+told-alike false false e = refl
 
-  abbrev with-sn : Bool
-  with-sn = alike (given keySid ts) (given keySn ts)
+module _ (hasSid hasSn : Bool) (sn : List ℕ) (hasGt : Bool) (gt : List ℕ) where
+  abbrev answer : Stream
+  answer = streamBy hasSid hasSn sn hasGt gt
 
-  abbrev with-gt : Bool
-  with-gt = alike (given keySid ts) (given keyGt ts)
+  pub stream-sn-alone : not (Bool·beq hasSn hasSid) ≡ true → (r : Stream) → r ≡ noStream false → r ≡ answer
+  unfolding streamBy
+  stream-sn-alone d r q = q ∙ go hasSid hasSn hasGt d
+    where
+      go : (a b c : Bool) → not (Bool·beq b a) ≡ true → noStream false ≡ streamBy a b sn c gt
+      go true true c d = true-not-false false d refl
+      go true false c d = refl
+      go false true c d = refl
+      go false false c d = true-not-false false d refl
 
-  -- no `sid`
-  module _ (s : given keySid ts ≡ false) where
-    lone-sn : given keySn ts ≡ true → noStream false ≡ streamOf ts
-    unfolding streamGood
-    lone-sn a = no-stream (and-not-left _ _ (alike-other (given keySid ts) (given keySn ts) s a)) (noStream false) refl
+  pub stream-gt-alone : hasSn ≡ hasSid → not (Bool·beq hasGt hasSid) ≡ true → (r : Stream) → r ≡ noStream false → r ≡ answer
+  unfolding streamBy
+  stream-gt-alone e d r q = q ∙ rw e (go hasSid hasGt d)
+    where
+      go : (a c : Bool) → not (Bool·beq c a) ≡ true → noStream false ≡ streamBy a a sn c gt
+      go true true d = true-not-false false d refl
+      go true false d = refl
+      go false true d = refl
+      go false false d = true-not-false false d refl
 
-    lone-gt : given keyGt ts ≡ true → noStream false ≡ streamOf ts
-    unfolding streamGood
-    lone-gt a = no-stream (and-not-right with-sn _ (and-not-left _ _ (alike-other (given keySid ts) (given keyGt ts) s a))) (noStream false) refl
+  module _ (a : hasSn ≡ hasSid) (b : hasGt ≡ hasSid) where
+    pub stream-none : hasSid ≡ false → (r : Stream) → r ≡ noStream true → r ≡ answer
+    unfolding streamBy digits.value
+    stream-none s r q = q ∙ rw (a, b, s)
 
-    stream-absent : given keySn ts ≡ false → given keyGt ts ≡ false → noStream true ≡ streamOf ts
-    unfolding streamGood streamOf
-    stream-absent a b =
-        let k = and-both _ _ (alike-none (given keySid ts) (given keySn ts) s a) (and-both _ _ (alike-none (given keySid ts) (given keyGt ts) s b)
-        (and-both _ _ (if-no (given keySn ts) (isNumber 4294967295 (value keySn ts)) true a) (if-no (given keyGt ts) (isNumber 4294967295 (value keyGt ts)) true b))) in
-        stream-same _ _ _ _ _ _ (sym s) (sym (ap number (value-missing keySn ts a) ∙ number-none)) (sym (ap number (value-missing keyGt ts b) ∙ number-none))
-        ∙ sym (if-yes _ _ _ k)
+    module _ (s : hasSid ≡ true) (n : Decimal) (read-n : n ≡ decimalOf 4294967295 sn) where
+      pub stream-sn : n .good ≡ false → (r : Stream) → r ≡ noStream false → r ≡ answer
+      unfolding streamBy
+      stream-sn e r q = q ∙ rw (a, b, s, sym (decimal-good 4294967295 sn n read-n) ∙ e)
 
-    pub stream-none : (f : Bool) → f ≡ (given keySn ts or given keyGt ts) → (r : Stream) → r ≡ noStream (not f) → r ≡ streamOf ts
-    stream-none f e r q = q ∙ ap (λ (b : Bool). noStream (not b)) e ∙ go (given keySn ts) (given keyGt ts) refl refl
-      where
-        go : (a b : Bool) → given keySn ts ≡ a → given keyGt ts ≡ b → noStream (not (a or b)) ≡ streamOf ts
-        go true b p q = lone-sn p
-        go false true p q = lone-gt q
-        go false false p q = stream-absent p q
+      module _ (good-n : n .good ≡ true) (m : Decimal) (read-m : m ≡ decimalOf 4294967295 gt) where
+        pub stream-gt : m .good ≡ false → (r : Stream) → r ≡ noStream false → r ≡ answer
+        unfolding streamBy
+        stream-gt e r q = q ∙ rw (a, b, s, sym (decimal-good 4294967295 sn n read-n) ∙ good-n, sym (decimal-good 4294967295 gt m read-m) ∙ e)
 
-  module _ (s : given keySid ts ≡ true) where
-    pub stream-no-sn : given keySn ts ≡ false → (r : Stream) → r ≡ noStream false → r ≡ streamOf ts
-    unfolding streamGood
-    stream-no-sn a = no-stream (and-not-left _ _ (alike-not (given keySid ts) (given keySn ts) s a))
-
-    pub stream-no-gt : given keyGt ts ≡ false → (r : Stream) → r ≡ noStream false → r ≡ streamOf ts
-    unfolding streamGood
-    stream-no-gt b = no-stream (and-not-right with-sn _ (and-not-left _ _ (alike-not (given keySid ts) (given keyGt ts) s b)))
-
-    module _ (a : given keySn ts ≡ true) (b : given keyGt ts ≡ true) (v : List ℕ) (is-sn : v ≡ value keySn ts) (n : Decimal) (read-n : n ≡ decimalOf 4294967295 v) where
-      sn-good : n .good ≡ optional keySn (isNumber 4294967295) ts
-      sn-good = keyed-number 4294967295 keySn ts v is-sn n read-n ∙ sym (if-yes _ _ _ a)
-
-      pub stream-sn : n .good ≡ false → (r : Stream) → r ≡ noStream false → r ≡ streamOf ts
-      unfolding streamGood
-      stream-sn e = no-stream (and-not-right with-sn _ (and-not-right with-gt _ (and-not-left _ _ (sym sn-good ∙ e))))
-
-      module _ (good-n : n .good ≡ true) (w : List ℕ) (is-gt : w ≡ value keyGt ts) (m : Decimal) (read-m : m ≡ decimalOf 4294967295 w) where
-        gt-good : m .good ≡ optional keyGt (isNumber 4294967295) ts
-        gt-good = keyed-number 4294967295 keyGt ts w is-gt m read-m ∙ sym (if-yes _ _ _ b)
-
-        pub stream-gt : m .good ≡ false → (r : Stream) → r ≡ noStream false → r ≡ streamOf ts
-        unfolding streamGood
-        stream-gt e = no-stream (and-not-right with-sn _ (and-not-right with-gt _ (and-not-right (optional keySn (isNumber 4294967295) ts) _ (sym gt-good ∙ e))))
-
-        pub stream-all : m .good ≡ true → record { good = true; given = true; sn = n .number; gt = m .number } ≡ streamOf ts
-        unfolding streamGood streamOf
+        pub stream-all : m .good ≡ true → record { good = true; given = true; sn = n .number; gt = m .number } ≡ answer
+        unfolding streamBy
         stream-all e =
-            let k = and-both _ _ (alike-yes (given keySid ts) (given keySn ts) s a) (and-both _ _ (alike-yes (given keySid ts) (given keyGt ts) s b) (and-both _ _ (sym sn-good ∙ good-n) (sym gt-good ∙ e))) in
-            stream-same _ _ _ _ _ _ (sym s) (keyed-spells 4294967295 keySn ts v is-sn n read-n good-n) (keyed-spells 4294967295 keyGt ts w is-gt m read-m e)
-            ∙ sym (if-yes _ _ _ k)
+            rw (a, b, s, sym (decimal-good 4294967295 sn n read-n) ∙ good-n, sym (decimal-good 4294967295 gt m read-m) ∙ e, decimal-says 4294967295 sn n read-n good-n, decimal-says 4294967295 gt m read-m e)

@@ -1,4 +1,3 @@
 -- Laws of a line's groups of keys, and what every public contract must show.
 pub mod Groups
-pub mod Optional
 pub mod Unique

@@ -10,26 +10,26 @@ use Rattle.line_groups.proofs.read_fragment.Reads as read-fragment-read
 use Rattle.line_groups.proofs.read_stream.Kinds as read-stream-kinds
 use Rattle.line_groups.proofs.read_stream.Reads as read-stream-reads
 
-pub read-payload-one : One 1 read-payload-kinds.ps read-payload-kinds.r read-payload-reads.Post
+pub read-payload-one : One 3 read-payload-kinds.ps read-payload-kinds.r read-payload-reads.Post
 read-payload-one κs a x y v w p q = (p ∙ sym q, refl)
 
-pub read-payload-free : Free 1 read-payload-kinds.ps read-payload-reads.Pre
+pub read-payload-free : Free 3 read-payload-kinds.ps read-payload-reads.Pre
 read-payload-free κs a = tt
 
-pub read-singles-one : One 1 read-singles-kinds.ps read-singles-kinds.r read-singles-reads.Post
+pub read-singles-one : One 3 read-singles-kinds.ps read-singles-kinds.r read-singles-reads.Post
 read-singles-one κs a x y v w p q = (p ∙ sym q, refl)
 
-pub read-singles-free : Free 1 read-singles-kinds.ps read-singles-reads.Pre
+pub read-singles-free : Free 3 read-singles-kinds.ps read-singles-reads.Pre
 read-singles-free κs a = tt
 
-pub read-fragment-one : One 1 read-fragment-kinds.ps read-fragment-kinds.r read-fragment-reads.Post
+pub read-fragment-one : One 2 read-fragment-kinds.ps read-fragment-kinds.r read-fragment-reads.Post
 read-fragment-one κs a x y v w p q = (p ∙ sym q, refl)
 
-pub read-fragment-free : Free 1 read-fragment-kinds.ps read-fragment-reads.Pre
+pub read-fragment-free : Free 2 read-fragment-kinds.ps read-fragment-reads.Pre
 read-fragment-free κs a = tt
 
-pub read-stream-one : One 1 read-stream-kinds.ps read-stream-kinds.r read-stream-reads.Post
+pub read-stream-one : One 2 read-stream-kinds.ps read-stream-kinds.r read-stream-reads.Post
 read-stream-one κs a x y v w p q = (p ∙ sym q, refl)
 
-pub read-stream-free : Free 1 read-stream-kinds.ps read-stream-reads.Pre
+pub read-stream-free : Free 2 read-stream-kinds.ps read-stream-reads.Pre
 read-stream-free κs a = tt

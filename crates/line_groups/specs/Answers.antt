@@ -4,13 +4,14 @@ use mathlib.Core.Bool.{Bool, true, false}
 use mathlib.Core.List.{List}
 use lib.IntN.{pos}
 use Rattle.octets.specs.Words.{if_then_else_}
+use Rattle.octets.specs.Bytes.{same}
 use Rattle.text.specs.Decimal.{number, signed}
 use Rattle.text.specs.Hex.{hexValue}
-use Rattle.names.specs.Reserved.{keyLen, keyS, keyChk, keyTtl, keyMid, keyFrag, keySid, keySn, keyGt}
+use Rattle.names.specs.Reserved.{keyLen}
 use Rattle.tokens.specs.Cuts.{before, after}
-use Rattle.tokens.specs.Tokens.{Token, given, value}
-use Rattle.line_values.specs.Values.{slash}
-use Rattle.line_groups.specs.Rules.{deflated, payloadGood, singlesGood, fragmentGood, streamGood}
+use Rattle.tokens.specs.Tokens.{Token, value}
+use Rattle.line_values.specs.Values.{slash, textIf}
+use Rattle.line_groups.specs.Rules.{'d', payloadRule, singlesRule, fragmentRule, streamRule}
 use Rattle.line_groups.specs.declared.Payload.{Payload}
 use Rattle.line_groups.specs.declared.Singles.{Singles}
 use Rattle.line_groups.specs.declared.Fragment.{Fragment}
@@ -33,44 +34,45 @@ abbrev pub noStream : Bool → Stream
 noStream good = record { good = good; given = false; sn = 0; gt = 0 }
 
 -- `len`, `fmt` and `clen`
-unfoldable pub payloadOf : List Token → Payload
-payloadOf ts = if payloadGood ts then record { good = true; len = lenOf ts; deflated = deflated ts } else noPayload
+unfoldable pub payloadBy : List ℕ → List ℕ → Bool → List ℕ → Payload
+payloadBy len fmt hasClen clen =
+    if payloadRule len fmt hasClen clen then record { good = true; len = number len; deflated = same fmt 'd' } else noPayload
 
 -- with `fmt=p` there may be no `clen`
 abbrev pub plainPayload : ℕ → Bool → Payload
 plainPayload len clen = if clen then noPayload else record { good = true; len = len; deflated = false }
 
 -- `s`, `ttl` and `chk`
-unfoldable pub singlesOf : List Token → Singles
-singlesOf ts =
-    if singlesGood ts
+unfoldable pub singlesBy : Bool → List ℕ → Bool → List ℕ → Bool → List ℕ → Singles
+singlesBy hasS s hasTtl ttl hasChk chk =
+    if singlesRule hasS s hasTtl ttl hasChk chk
     then record {
       good = true;
-      «has_salt» = given keyS ts;
-      salt = signed (value keyS ts);
-      «has_ttl» = given keyTtl ts;
-      ttl = number (value keyTtl ts);
-      «has_chk» = given keyChk ts;
-      chk = hexValue (value keyChk ts);
+      «has_salt» = hasS;
+      salt = signed (textIf hasS s);
+      «has_ttl» = hasTtl;
+      ttl = number (textIf hasTtl ttl);
+      «has_chk» = hasChk;
+      chk = hexValue (textIf hasChk chk);
     }
     else noSingles
 
 -- `mid` and `frag`
-unfoldable pub fragmentOf : List Token → Fragment
-fragmentOf ts =
-    if fragmentGood ts
+unfoldable pub fragmentBy : Bool → List ℕ → Bool → List ℕ → Fragment
+fragmentBy hasMid mid hasFrag frag =
+    if fragmentRule hasMid mid hasFrag frag
     then record {
       good = true;
-      given = given keyMid ts;
-      mid = hexValue (value keyMid ts);
-      index = number (before slash (value keyFrag ts));
-      total = number (after slash (value keyFrag ts));
+      given = hasMid;
+      mid = hexValue (textIf hasMid mid);
+      index = number (before slash (textIf hasFrag frag));
+      total = number (after slash (textIf hasFrag frag));
     }
     else noFragment false
 
 -- `sid`, `sn` and `gt`
-unfoldable pub streamOf : List Token → Stream
-streamOf ts =
-    if streamGood ts
-    then record { good = true; given = given keySid ts; sn = number (value keySn ts); gt = number (value keyGt ts) }
+unfoldable pub streamBy : Bool → Bool → List ℕ → Bool → List ℕ → Stream
+streamBy hasSid hasSn sn hasGt gt =
+    if streamRule hasSid hasSn sn hasGt gt
+    then record { good = true; given = hasSid; sn = number (textIf hasSn sn); gt = number (textIf hasGt gt) }
     else noStream false

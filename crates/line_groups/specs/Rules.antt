@@ -1,4 +1,4 @@
--- Document 01, "The ihave line": the rules of a line's reserved keys, looked up among its tokens. The value of a key that is not there is empty.
+-- Document 01, "The ihave line": the rules of a line's reserved keys. The value of a key that is not there is empty.
 -- What a line and a datagram have in common (`ttl` from 1, N from 1 to M, names) is said once, in `envelope`.
 use Prim.Native.Nat.{ℕ}
 use mathlib.Core.Bool.{Bool, true}
@@ -15,9 +15,12 @@ use Rattle.line_values.specs.Values.{isPart}
 abbrev pub alike : Bool → Bool → Bool
 alike a b = if a then b else no b
 
--- a key that may be missing: where it is there, its value keeps a rule
+-- a value that may be missing: where it is there, it keeps a rule
+abbrev pub kept : Bool → (List ℕ → Bool) → List ℕ → Bool
+kept has rule v = if has then rule v else true
+
 abbrev pub optional : List ℕ → (List ℕ → Bool) → List Token → Bool
-optional k rule ts = if given k ts then rule (value k ts) else true
+optional k rule ts = kept (given k ts) rule (value k ts)
 
 -- `p`, and `d`
 abbrev pub 'p' : List ℕ
@@ -26,28 +29,44 @@ abbrev pub 'p' : List ℕ
 abbrev pub 'd' : List ℕ
 'd' = 100 ∷ []
 
+-- ---- by the values, those that may be missing behind their flags
+
+-- `len` 0 to 2147483647 and `fmt` are required (an empty value is no number, and neither `p` nor `d`); `clen` present exactly with `fmt=d`
+abbrev pub payloadRule : List ℕ → List ℕ → Bool → List ℕ → Bool
+payloadRule len fmt hasClen clen =
+    isNumber 2147483647 len
+    and ((same fmt 'p' or same fmt 'd')
+    and (alike hasClen (same fmt 'd')
+    and kept hasClen (isNumber 2147483647) clen))
+
+-- `s` a signed number, `ttl` up to 2147483647, `chk` four hex digits
+abbrev pub singlesRule : Bool → List ℕ → Bool → List ℕ → Bool → List ℕ → Bool
+singlesRule hasS s hasTtl ttl hasChk chk = kept hasS isSigned s and (kept hasTtl (isNumber 2147483647) ttl and kept hasChk (isHex 4) chk)
+
+-- `mid` and `frag` both or neither
+abbrev pub fragmentRule : Bool → List ℕ → Bool → List ℕ → Bool
+fragmentRule hasMid mid hasFrag frag = alike hasMid hasFrag and (kept hasMid (isHex 7) mid and kept hasFrag isPart frag)
+
+-- `sid`, `sn`, `gt` all or none; `sn`, `gt` 0 to 4294967295
+abbrev pub streamRule : Bool → Bool → List ℕ → Bool → List ℕ → Bool
+streamRule hasSid hasSn sn hasGt gt =
+    alike hasSid hasSn
+    and (alike hasSid hasGt
+    and (kept hasSn (isNumber 4294967295) sn and kept hasGt (isNumber 4294967295) gt))
+
+-- ---- by a line's tokens
+
 abbrev pub deflated : List Token → Bool
 deflated ts = same (value keyFmt ts) 'd'
 
--- `len` 0 to 2147483647 and `fmt` are required (an empty value is no number, and neither `p` nor `d`); `clen` present exactly with `fmt=d`
 unfoldable pub payloadGood : List Token → Bool
-payloadGood ts =
-    isNumber 2147483647 (value keyLen ts)
-    and ((same (value keyFmt ts) 'p' or deflated ts)
-    and (alike (given keyClen ts) (deflated ts)
-    and optional keyClen (isNumber 2147483647) ts))
+payloadGood ts = payloadRule (value keyLen ts) (value keyFmt ts) (given keyClen ts) (value keyClen ts)
 
--- `s` a signed number, `ttl` up to 2147483647, `chk` four hex digits
 unfoldable pub singlesGood : List Token → Bool
-singlesGood ts = optional keyS isSigned ts and (optional keyTtl (isNumber 2147483647) ts and optional keyChk (isHex 4) ts)
+singlesGood ts = singlesRule (given keyS ts) (value keyS ts) (given keyTtl ts) (value keyTtl ts) (given keyChk ts) (value keyChk ts)
 
--- `mid` and `frag` both or neither
 unfoldable pub fragmentGood : List Token → Bool
-fragmentGood ts = alike (given keyMid ts) (given keyFrag ts) and (optional keyMid (isHex 7) ts and optional keyFrag isPart ts)
+fragmentGood ts = fragmentRule (given keyMid ts) (value keyMid ts) (given keyFrag ts) (value keyFrag ts)
 
--- `sid`, `sn`, `gt` all or none; `sn`, `gt` 0 to 4294967295
 unfoldable pub streamGood : List Token → Bool
-streamGood ts =
-    alike (given keySid ts) (given keySn ts)
-    and (alike (given keySid ts) (given keyGt ts)
-    and (optional keySn (isNumber 4294967295) ts and optional keyGt (isNumber 4294967295) ts))
+streamGood ts = streamRule (given keySid ts) (given keySn ts) (value keySn ts) (given keyGt ts) (value keyGt ts)

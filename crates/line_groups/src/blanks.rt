@@ -4,9 +4,6 @@ use crate::Payload;
 use crate::Singles;
 use crate::Stream;
 ghost use mathlib.Core.Path.{_≡_};
-ghost use Rattle.octets.specs.Words.{_or_};
-ghost use Rattle.names.specs.Reserved.{keySn, keyGt};
-ghost use Rattle.tokens.specs.Tokens.{tokens, given};
 ghost use Rattle.line_groups.specs.Answers.{noPayload, plainPayload, noSingles, noFragment, noStream};
 
 pub(crate) fn no_payload() -> Payload
@@ -68,14 +65,4 @@ pub(crate) fn no_stream(good: bool) -> Stream
         sn: 0,
         gt: 0,
     }
-}
-
-// Whether `sn` or `gt` is there.
-pub(crate) fn numbered(t: &[u8]) -> bool
-    ensures { λ r. ⌜ r ≡ (given keySn (tokens (now (t .entry))) or given keyGt (tokens (now (t .entry)))) ⌝ }
-{
-    if tokens::is_given(t, b"sn") {
-        return true;
-    }
-    tokens::is_given(t, b"gt")
 }

@@ -1,8 +1,8 @@
 // Document 01, "The ihave line": the values of a line's reserved keys, in groups that stand or fall together.
-// Each reader is given the text of a line's tokens; its answer says whether the group's rules hold, and then what the values are.
+// Each reader is given the group's values, those that may be missing behind their flags; its answer says whether the group's rules hold, and
+// then what the values are.
 ghost use mathlib.Core.Path.{_≡_};
-ghost use Rattle.tokens.specs.Tokens.{tokens};
-ghost use Rattle.line_groups.specs.Answers.{payloadOf, singlesOf, fragmentOf, streamOf};
+ghost use Rattle.line_groups.specs.Answers.{payloadBy, singlesBy, fragmentBy, streamBy};
 
 mod blanks;
 
@@ -42,77 +42,83 @@ pub struct Stream {
 }
 
 // `len`, `fmt` and `clen`.
-pub fn read_payload(t: &[u8]) -> Payload
-    ensures { λ r. ⌜ r ≡ payloadOf (tokens (now (t .entry))) ⌝ }
+pub fn read_payload(len: &[u8], fmt: &[u8], has_clen: bool, clen: &[u8]) -> Payload
+    ensures { λ r. ⌜ r ≡ payloadBy (now (len .entry)) (now (fmt .entry)) «has_clen» (now (clen .entry)) ⌝ }
 {
-    let n = line_values::read_decimal(tokens::value_of(t, b"len"), 2147483647);
+    let n = line_values::read_decimal(len, 2147483647);
     if !n.good {
         return blanks::no_payload();
     }
-    let len = n.number as u32;
-    let format = tokens::value_of(t, b"fmt");
-    if octets::equal(format, b"p") {
-        return blanks::plain(len, tokens::is_given(t, b"clen"));
+    let number = n.number as u32;
+    if octets::equal(fmt, b"p") {
+        return blanks::plain(number, has_clen);
     }
-    if !octets::equal(format, b"d") {
+    if !octets::equal(fmt, b"d") {
         return blanks::no_payload();
     }
-    if !tokens::is_given(t, b"clen") {
+    if !has_clen {
         return blanks::no_payload();
     }
-    let m = line_values::read_decimal(tokens::value_of(t, b"clen"), 2147483647);
+    let m = line_values::read_decimal(clen, 2147483647);
     if !m.good {
         return blanks::no_payload();
     }
     Payload {
         good: true,
-        len,
+        len: number,
         deflated: true,
     }
 }
 
 // `s`, `ttl` and `chk`.
-pub fn read_singles(t: &[u8]) -> Singles
-    ensures { λ r. ⌜ r ≡ singlesOf (tokens (now (t .entry))) ⌝ }
+pub fn read_singles(
+    has_salt: bool,
+    salt: &[u8],
+    has_ttl: bool,
+    ttl: &[u8],
+    has_chk: bool,
+    chk: &[u8],
+) -> Singles
+    ensures { λ r. ⌜ r ≡ singlesBy «has_salt» (now (salt .entry)) «has_ttl» (now (ttl .entry)) «has_chk» (now (chk .entry)) ⌝ }
 {
-    let s = line_values::salt_in(t);
+    let s = line_values::salt_if(has_salt, salt);
     if !s.good {
         return blanks::no_singles();
     }
-    let n = line_values::number_in(t, b"ttl", 2147483647);
+    let n = line_values::number_if(has_ttl, ttl, 2147483647);
     if !n.good {
         return blanks::no_singles();
     }
-    let c = line_values::chk_in(t);
+    let c = line_values::chk_if(has_chk, chk);
     if !c.good {
         return blanks::no_singles();
     }
     Singles {
         good: true,
-        has_salt: tokens::is_given(t, b"s"),
+        has_salt,
         salt: s.salt,
-        has_ttl: tokens::is_given(t, b"ttl"),
+        has_ttl,
         ttl: n.number as u32,
-        has_chk: tokens::is_given(t, b"chk"),
+        has_chk,
         chk: c.chk,
     }
 }
 
 // `mid` and `frag`, both or neither.
-pub fn read_fragment(t: &[u8]) -> Fragment
-    ensures { λ r. ⌜ r ≡ fragmentOf (tokens (now (t .entry))) ⌝ }
+pub fn read_fragment(has_mid: bool, mid: &[u8], has_frag: bool, frag: &[u8]) -> Fragment
+    ensures { λ r. ⌜ r ≡ fragmentBy «has_mid» (now (mid .entry)) «has_frag» (now (frag .entry)) ⌝ }
 {
-    if !tokens::is_given(t, b"mid") {
-        return blanks::no_fragment(!tokens::is_given(t, b"frag"));
+    if !has_mid {
+        return blanks::no_fragment(!has_frag);
     }
-    if !tokens::is_given(t, b"frag") {
+    if !has_frag {
         return blanks::no_fragment(false);
     }
-    let m = line_values::read_master(tokens::value_of(t, b"mid"));
+    let m = line_values::read_master(mid);
     if !m.good {
         return blanks::no_fragment(false);
     }
-    let p = line_values::read_part(tokens::value_of(t, b"frag"));
+    let p = line_values::read_part(frag);
     if !p.good {
         return blanks::no_fragment(false);
     }
@@ -126,30 +132,30 @@ pub fn read_fragment(t: &[u8]) -> Fragment
 }
 
 // `sid`, `sn` and `gt`, all or none.
-pub fn read_stream(t: &[u8]) -> Stream
-    ensures { λ r. ⌜ r ≡ streamOf (tokens (now (t .entry))) ⌝ }
+pub fn read_stream(has_sid: bool, has_sn: bool, sn: &[u8], has_gt: bool, gt: &[u8]) -> Stream
+    ensures { λ r. ⌜ r ≡ streamBy «has_sid» «has_sn» (now (sn .entry)) «has_gt» (now (gt .entry)) ⌝ }
 {
-    if !tokens::is_given(t, b"sid") {
-        return blanks::no_stream(!blanks::numbered(t));
-    }
-    if !tokens::is_given(t, b"sn") {
+    if has_sn != has_sid {
         return blanks::no_stream(false);
     }
-    if !tokens::is_given(t, b"gt") {
+    if has_gt != has_sid {
         return blanks::no_stream(false);
     }
-    let sn = line_values::read_decimal(tokens::value_of(t, b"sn"), 4294967295);
-    if !sn.good {
+    if !has_sid {
+        return blanks::no_stream(true);
+    }
+    let n = line_values::read_decimal(sn, 4294967295);
+    if !n.good {
         return blanks::no_stream(false);
     }
-    let gt = line_values::read_decimal(tokens::value_of(t, b"gt"), 4294967295);
-    if !gt.good {
+    let m = line_values::read_decimal(gt, 4294967295);
+    if !m.good {
         return blanks::no_stream(false);
     }
     Stream {
         good: true,
         given: true,
-        sn: sn.number as u32,
-        gt: gt.number as u32,
+        sn: n.number as u32,
+        gt: m.number as u32,
     }
 }

@@ -9,19 +9,17 @@ use Rattle.octets.specs.Bytes.{front}
 use Rattle.line.specs.Reading.{readOf}
 use Rattle.line.specs.Writing.{printOf, written, writeRefusal}
 use Rattle.line.specs.declared.Line.{Line}
-use Rattle.line_writer.specs.declared.Writing.{Writing}
-use Rattle.line_writer.specs.declared.Writing.the-variants.{Written, Refused}
-use Rattle.line_writer.specs.Answer.{answerBy, leftBy, writeAnswer, writeLeft}
+use Rattle.line_writer.specs.Answer.{Writing, Written, Refused, answerBy, leftBy, writeAnswer, writeLeft}
 use Rattle.line_trip.proofs.Message.{Typed}
 use Rattle.line_trip.proofs.RoundTrip.{readBack, written-read}
 
 abbrev countOf : Writing → ℕ
-countOf (Writing.Written n) = n
-countOf (Writing.Refused n) = 0
+countOf (Written n) = n
+countOf (Refused n) = 0
 
 abbrev WasRefused : Writing → Type 0
-WasRefused (Writing.Written n) = ⊥
-WasRefused (Writing.Refused n) = Unit
+WasRefused (Written n) = ⊥
+WasRefused (Refused n) = Unit
 
 -- a line with its LF at the front of a buffer: the bytes before the LF
 front-line : (w rest : List ℕ) → take (length (w ++ (0x0A ∷ [])) - 1) ((w ++ (0x0A ∷ [])) ++ rest) ≡ w

@@ -6,7 +6,7 @@ use mathlib.Core.Bool.{Bool, true, false}
 use mathlib.Core.List.{List, [], _∷_, _++_, append-assoc, append-nil, map}
 use borrow.Author.Tests.{eq-eqb, ne-eqb, le-leb, leb-true}
 use Rattle.octets.specs.Words.{_and_, _or_, no, _≤?_, _=?_, every}
-use Rattle.octets.proofs.Tests.{and-left, and-right, and-both, or-left, true-not-false}
+use Rattle.octets.proofs.Tests.{and-left, and-right, and-both, or-left, true-not-false, or-no}
 use Rattle.utf8.specs.Utf8.{utf8, run}
 use Rattle.names.specs.Texts.{textByte, ruled}
 use Rattle.tokens.specs.Cuts.{has, before, after, split}
@@ -15,10 +15,6 @@ use Rattle.line.specs.Reading.{plain}
 use Rattle.line_trip.proofs.Texts.{every-append, every-by, utf8-append}
 
 -- ---- a text cut at a byte
-
-or-no : (a b : Bool) → a or b ≡ false → (a ≡ false) × (b ≡ false)
-or-no true b e = true-not-false true refl e
-or-no false b e = (refl, e)
 
 module _ (c : ℕ) where
   pub split-end : (w : List ℕ) → has c w ≡ false → split c w ≡ w ∷ []

@@ -7,7 +7,7 @@ use native.Mathlib.Omega.{arith}
 use lib.ListN.{length, getD}
 use Rattle.octets.specs.Words.{if_then_else_, _and_, _or_, no, every, some}
 use Rattle.octets.specs.Bytes.{same}
-use Rattle.octets.proofs.Tests.{if-yes, if-no, and-left, and-right, and-both, or-left, or-next, true-not-false, no-false}
+use Rattle.octets.proofs.Tests.{if-yes, if-no, and-left, and-right, and-both, or-left, or-next, true-not-false, no-false, or-no}
 use Rattle.octets.proofs.Lists.{same-eq}
 use Rattle.names.specs.Reserved.{reserved}
 use Rattle.headers.specs.Keys.{allDiffer}
@@ -18,10 +18,6 @@ use Rattle.line_trip.proofs.Cuts.{sound}
 pub not-no : (a : Bool) → no a ≡ true → a ≡ false
 not-no true e = true-not-false false e refl
 not-no false e = refl
-
-or-no : (a b : Bool) → a or b ≡ false → (a ≡ false) × (b ≡ false)
-or-no true b e = true-not-false true refl e
-or-no false b e = (refl, e)
 
 pub by-test : {A : Type 0} (P : A → Type 0) (t : Bool) (a b : A) → (t ≡ true → P a) → (t ≡ false → P b) → P (if t then a else b)
 by-test P true a b f g = f refl

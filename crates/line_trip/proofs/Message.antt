@@ -40,11 +40,10 @@ use Rattle.tokens.specs.Tokens.{Token, token, tokenOf, words, tokens, keys, giv
 use Rattle.line_values.specs.Values.{slash, isPart}
 use Rattle.line_groups.specs.Rules.{alike, 'p', 'd', deflated, payloadGood, singlesGood, fragmentGood, streamGood}
 use Rattle.line_groups.specs.Answers.{lenOf}
-use Rattle.line_headers.specs.Headers.{shortValue, headersFit, headerOf, headersOf}
-use Rattle.line.specs.Reading.{ihave, verbWord, idWord, restOf, plain, isText, framed, fieldsOf, lineOf, valuesGood, wellFormed, chkRight, refusalOf, readOf, answered}
+use Rattle.line_places.specs.Headers.{shortValue, headersFit, headerOf, headersOf}
+use Rattle.line.specs.Reading.{ihave, verbWord, idWord, restOf, plain, isText, framed, fieldsOf, lineOf, valuesGood, wellFormed, chkRight, refusalOf, readOf, answered, Read}
 use Rattle.line.specs.Writing.{chosen, partText, choicesOf, headerToken, headerTokens, dstToken, tokensOf, bodyOf, chkToken, printOf, messageGood}
 use Rattle.line.specs.declared.Line.{Line}
-use Rattle.line.specs.declared.Reading.the-variants.{Read}
 use Rattle.line_trip.proofs.Texts.{every-append, every-by, ascii, utf8-append, ascii-ruled, decimal-ascii, hex-ascii, signed-ascii, callsign-ascii, destination-ascii}
 use Rattle.line_trip.proofs.Cuts.{before-at, after-at, visible, spaceless, words-back, spaced-plain, spaced-utf8, spaced-append, map-append, sound, ruled-visible, words-visible, tokens-back, all-equals}
 use Rattle.line_trip.proofs.Lookups.{not-no, givenIn, valueIn, given-chosen, value-chosen, free, given-past, value-past, some-no, once, apart, once-append, once-chosen, others-append, others-free, others-chosen, last-only, soundChoice, sound-chosen}
@@ -130,7 +129,7 @@ all-is m =
     append-assoc (chosen (choicesOf m)) (headerTokens (m .fields .headers) ++ (dstToken m ∷ [])) (chkToken (bodyOf m) ∷ [])
     ∙ ap (λ (l : List Token). chosen (choicesOf m) ++ l) (append-assoc (headerTokens (m .fields .headers)) (dstToken m ∷ []) (chkToken (bodyOf m) ∷ []))
 
-body-print : (m : Line) (c : Token) → bodyOf m ++ spaced (wordOf c ∷ []) ≡ ihave ++ spaced (hexDigits 7 (m .fields .id) ∷ map wordOf (tokensOf m ++ (c ∷ [])))
+pub body-print : (m : Line) (c : Token) → bodyOf m ++ spaced (wordOf c ∷ []) ≡ ihave ++ spaced (hexDigits 7 (m .fields .id) ∷ map wordOf (tokensOf m ++ (c ∷ [])))
 unfolding bodyOf
 body-print m c =
     append-assoc ihave (spaced (hexDigits 7 (m .fields .id) ∷ map wordOf (tokensOf m))) (spaced (wordOf c ∷ []))

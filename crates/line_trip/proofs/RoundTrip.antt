@@ -9,15 +9,13 @@ use lib.ListN.{length}
 use Rattle.octets.specs.Words.{if_then_else_, no, _<?_}
 use Rattle.refusals.specs.Numbers.{lineMalformed, payloadTooLong, longestPayload, bufferTooShort}
 use Rattle.envelope.specs.Tidy.{tidy}
-use Rattle.line.specs.Reading.{readOf}
+use Rattle.line.specs.Reading.{Outcome, Read, readOf}
 use Rattle.line.specs.Writing.{printOf, written, messageGood, writeRefusal}
 use Rattle.line.specs.declared.Line.{Line}
-use Rattle.line.specs.declared.LineAnswer.{LineAnswer}
-use Rattle.line.specs.declared.Reading.the-variants.{Read}
 use Rattle.line_trip.proofs.Message.{Typed, line-read}
 
 -- the answer of reading: the message, tidied
-abbrev pub readBack : Line → LineAnswer
+abbrev pub readBack : Line → Outcome
 readBack m = record { reading = Read; line = record { len = m .len; fields = tidy (m .fields) } }
 
 -- a message that keeps the rules, with a payload that may be sent

@@ -1,10 +1,12 @@
 -- Single values: what the readers of `text` find, as this crate answers it.
 use Prim.Native.Nat.{ℕ, _≤_}
 use mathlib.Core.Path.{_≡_, refl, ap, sym, _∙_}
-use mathlib.Core.Bool.{true, false}
-use mathlib.Core.List.{List}
+use mathlib.Core.Bool.{Bool, true, false}
+use mathlib.Core.List.{List, []}
 use lib.IntN.{pos}
+use Rattle.octets.specs.Words.{if_then_else_}
 use Rattle.octets.proofs.Tests.{if-yes, if-no, and-both, and-not-left, and-not-right}
+use Rattle.text.specs.Digits as digits
 use Rattle.text.specs.Decimal.{isNumber, number, numberOf, isSigned, signed, signedOf}
 use Rattle.text.specs.Hex as hex
 use Rattle.text.specs.Hex.{isHex, hexValue}
@@ -18,7 +20,7 @@ use Rattle.text.specs.declared.Id.{Id}
 use Rattle.text.specs.declared.Id.the-variants as id
 use Rattle.text.proofs.Sign.{numberOf-most}
 use Rattle.tokens.specs.Cuts.{has, before, after}
-use Rattle.line_values.specs.Values.{slash, isPart, decimalOf, saltOf, chkOf, masterOf, noPart, partOf}
+use Rattle.line_values.specs.Values.{slash, isPart, decimalOf, saltOf, chkOf, masterOf, noPart, partOf, numberIf, saltIf, chkIf, textIf}
 use Rattle.line_values.specs.declared.Decimal.{Decimal}
 use Rattle.line_values.specs.declared.Salt.{Salt}
 use Rattle.line_values.specs.declared.Chk.{Chk}
@@ -77,19 +79,19 @@ module _ (limit : ℕ) (v : List ℕ) (r : Decimal) (e : r ≡ decimalOf limit v
   decimal-says g = ap (λ (x : Decimal). x .number) (picked (λ (x : Decimal). x .good) (isNumber limit v) (record { good = true; number = number v }) (record { good = false; number = 0 }) r refl refl e g)
 
 module _ (v : List ℕ) where
-  pub salt-good : saltOf v .good ≡ isSigned v
+  salt-good : saltOf v .good ≡ isSigned v
   unfolding saltOf
   salt-good = picked-good (λ (x : Salt). x .good) (isSigned v) (record { good = true; salt = signed v }) (record { good = false; salt = pos 0 }) (saltOf v) refl refl refl
 
-  pub salt-says : saltOf v .good ≡ true → saltOf v .salt ≡ signed v
+  salt-says : saltOf v .good ≡ true → saltOf v .salt ≡ signed v
   unfolding saltOf
   salt-says g = ap (λ (x : Salt). x .salt) (picked (λ (x : Salt). x .good) (isSigned v) (record { good = true; salt = signed v }) (record { good = false; salt = pos 0 }) (saltOf v) refl refl refl g)
 
-  pub chk-good : chkOf v .good ≡ isHex 4 v
+  chk-good : chkOf v .good ≡ isHex 4 v
   unfolding chkOf
   chk-good = picked-good (λ (x : Chk). x .good) (isHex 4 v) (record { good = true; chk = hexValue v }) (record { good = false; chk = 0 }) (chkOf v) refl refl refl
 
-  pub chk-says : chkOf v .good ≡ true → chkOf v .chk ≡ hexValue v
+  chk-says : chkOf v .good ≡ true → chkOf v .chk ≡ hexValue v
   unfolding chkOf
   chk-says g = ap (λ (x : Chk). x .chk) (picked (λ (x : Chk). x .good) (isHex 4 v) (record { good = true; chk = hexValue v }) (record { good = false; chk = 0 }) (chkOf v) refl refl refl g)
 
@@ -101,6 +103,57 @@ module _ (v : List ℕ) (r : Master) (e : r ≡ masterOf v) where
   pub master-says : r .good ≡ true → r .id ≡ hexValue v
   unfolding masterOf
   master-says g = ap (λ (x : Master). x .id) (picked (λ (x : Master). x .good) (isHex 7 v) (record { good = true; id = hexValue v }) (record { good = false; id = 0 }) r refl refl e g)
+
+-- ---- a value that may be missing
+
+module _ {A B : Type 0} (good : A → Bool) (see : A → B) (rule : List ℕ → Bool) (f : List ℕ → B) (read : List ℕ → A) (none : A)
+    (reads-good : (v : List ℕ) → good (read v) ≡ rule v) (reads : (v : List ℕ) → good (read v) ≡ true → see (read v) ≡ f v)
+    (none-good : good none ≡ true) (none-says : see none ≡ f []) where
+  good-if : (has : Bool) (v : List ℕ) (r : A) → r ≡ (if has then read v else none) → good r ≡ (if has then rule v else true)
+  good-if true v r e = ap good e ∙ reads-good v
+  good-if false v r e = ap good e ∙ none-good
+
+  says-if : (has : Bool) (v : List ℕ) (r : A) → r ≡ (if has then read v else none) → good r ≡ true → see r ≡ f (textIf has v)
+  says-if true v r e g = ap see e ∙ reads v (ap good (sym e) ∙ g)
+  says-if false v r e g = ap see e ∙ none-says
+
+none-signed : pos 0 ≡ signed []
+unfolding digits.value
+none-signed = refl
+
+none-number : 0 ≡ number []
+unfolding digits.value
+none-number = refl
+
+none-hex : 0 ≡ hexValue []
+unfolding digits.value
+none-hex = refl
+
+module _ (has : Bool) (v : List ℕ) where
+  module _ (limit : ℕ) (r : Decimal) (e : r ≡ numberIf limit has v) where
+    pub number-if-good : r .good ≡ (if has then isNumber limit v else true)
+    number-if-good =
+        good-if (λ (x : Decimal). x .good) (λ (x : Decimal). x .number) (isNumber limit) number (decimalOf limit) (record { good = true; number = 0 })
+        (λ w. decimal-good limit w (decimalOf limit w) refl) (λ w. decimal-says limit w (decimalOf limit w) refl) refl none-number has v r e
+
+    pub number-if-says : r .good ≡ true → r .number ≡ number (textIf has v)
+    number-if-says =
+        says-if (λ (x : Decimal). x .good) (λ (x : Decimal). x .number) (isNumber limit) number (decimalOf limit) (record { good = true; number = 0 })
+        (λ w. decimal-good limit w (decimalOf limit w) refl) (λ w. decimal-says limit w (decimalOf limit w) refl) refl none-number has v r e
+
+  module _ (r : Salt) (e : r ≡ saltIf has v) where
+    pub salt-if-good : r .good ≡ (if has then isSigned v else true)
+    salt-if-good = good-if (λ (x : Salt). x .good) (λ (x : Salt). x .salt) isSigned signed saltOf (record { good = true; salt = pos 0 }) salt-good salt-says refl none-signed has v r e
+
+    pub salt-if-says : r .good ≡ true → r .salt ≡ signed (textIf has v)
+    salt-if-says = says-if (λ (x : Salt). x .good) (λ (x : Salt). x .salt) isSigned signed saltOf (record { good = true; salt = pos 0 }) salt-good salt-says refl none-signed has v r e
+
+  module _ (r : Chk) (e : r ≡ chkIf has v) where
+    pub chk-if-good : r .good ≡ (if has then isHex 4 v else true)
+    chk-if-good = good-if (λ (x : Chk). x .good) (λ (x : Chk). x .chk) (isHex 4) hexValue chkOf (record { good = true; chk = 0 }) chk-good chk-says refl none-hex has v r e
+
+    pub chk-if-says : r .good ≡ true → r .chk ≡ hexValue (textIf has v)
+    chk-if-says = says-if (λ (x : Chk). x .good) (λ (x : Chk). x .chk) (isHex 4) hexValue chkOf (record { good = true; chk = 0 }) chk-good chk-says refl none-hex has v r e
 
 -- ---- N/M
 

@@ -7,12 +7,12 @@ use Rattle.line_values.proofs.read_master.Kinds as read-master-kinds
 use Rattle.line_values.proofs.read_master.Reads as read-master-reads
 use Rattle.line_values.proofs.read_part.Kinds as read-part-kinds
 use Rattle.line_values.proofs.read_part.Reads as read-part-reads
-use Rattle.line_values.proofs.number_in.Kinds as number-in-kinds
-use Rattle.line_values.proofs.number_in.Reads as number-in-reads
-use Rattle.line_values.proofs.salt_in.Kinds as salt-in-kinds
-use Rattle.line_values.proofs.salt_in.Reads as salt-in-reads
-use Rattle.line_values.proofs.chk_in.Kinds as chk-in-kinds
-use Rattle.line_values.proofs.chk_in.Reads as chk-in-reads
+use Rattle.line_values.proofs.number_if.Kinds as number-if-kinds
+use Rattle.line_values.proofs.number_if.Reads as number-if-reads
+use Rattle.line_values.proofs.salt_if.Kinds as salt-if-kinds
+use Rattle.line_values.proofs.salt_if.Reads as salt-if-reads
+use Rattle.line_values.proofs.chk_if.Kinds as chk-if-kinds
+use Rattle.line_values.proofs.chk_if.Reads as chk-if-reads
 
 pub read-decimal-one : One 1 read-decimal-kinds.ps read-decimal-kinds.r read-decimal-reads.Post
 read-decimal-one κs a x y v w p q = (p .0 ∙ sym (q .0), refl)
@@ -32,20 +32,20 @@ read-part-one κs a x y v w p q = (p ∙ sym q, refl)
 pub read-part-free : Free 1 read-part-kinds.ps read-part-reads.Pre
 read-part-free κs a = tt
 
-pub number-in-one : One 2 number-in-kinds.ps number-in-kinds.r number-in-reads.Post
-number-in-one κs a x y v w p q = (p .0 ∙ sym (q .0), refl)
+pub number-if-one : One 1 number-if-kinds.ps number-if-kinds.r number-if-reads.Post
+number-if-one κs a x y v w p q = (p .0 ∙ sym (q .0), refl)
 
-pub number-in-free : Free 2 number-in-kinds.ps number-in-reads.Pre
-number-in-free κs a = tt
+pub number-if-free : Free 1 number-if-kinds.ps number-if-reads.Pre
+number-if-free κs a = tt
 
-pub salt-in-one : One 1 salt-in-kinds.ps salt-in-kinds.r salt-in-reads.Post
-salt-in-one κs a x y v w p q = (p ∙ sym q, refl)
+pub salt-if-one : One 1 salt-if-kinds.ps salt-if-kinds.r salt-if-reads.Post
+salt-if-one κs a x y v w p q = (p ∙ sym q, refl)
 
-pub salt-in-free : Free 1 salt-in-kinds.ps salt-in-reads.Pre
-salt-in-free κs a = tt
+pub salt-if-free : Free 1 salt-if-kinds.ps salt-if-reads.Pre
+salt-if-free κs a = tt
 
-pub chk-in-one : One 1 chk-in-kinds.ps chk-in-kinds.r chk-in-reads.Post
-chk-in-one κs a x y v w p q = (p ∙ sym q, refl)
+pub chk-if-one : One 1 chk-if-kinds.ps chk-if-kinds.r chk-if-reads.Post
+chk-if-one κs a x y v w p q = (p ∙ sym q, refl)
 
-pub chk-in-free : Free 1 chk-in-kinds.ps chk-in-reads.Pre
-chk-in-free κs a = tt
+pub chk-if-free : Free 1 chk-if-kinds.ps chk-if-reads.Pre
+chk-if-free κs a = tt

@@ -1,14 +1,12 @@
 -- Document 01, "Names and fields": the values of a line's keys. Each reading answers whether a text is good, and what it says.
 use Prim.Native.Nat.{ℕ}
 use mathlib.Core.Bool.{Bool, true, false}
-use mathlib.Core.List.{List}
+use mathlib.Core.List.{List, []}
 use lib.IntN.{pos}
 use Rattle.octets.specs.Words.{if_then_else_, _and_}
 use Rattle.text.specs.Decimal.{isNumber, number, isSigned, signed}
 use Rattle.text.specs.Hex.{isHex, hexValue}
-use Rattle.names.specs.Reserved.{keyS, keyChk}
 use Rattle.tokens.specs.Cuts.{has, before, after}
-use Rattle.tokens.specs.Tokens.{Token, given, value}
 use Rattle.line_values.specs.declared.Decimal.{Decimal}
 use Rattle.line_values.specs.declared.Salt.{Salt}
 use Rattle.line_values.specs.declared.Chk.{Chk}
@@ -45,16 +43,17 @@ partOf v =
     then record { good = true; index = number (before slash v); total = number (after slash v) }
     else noPart
 
--- ---- the value of a key; where the key is not there, nothing is wrong, and the value is 0
+-- ---- a value that may be missing: nothing is wrong then, and it is 0
 
-abbrev pub keyed : {A : Type 0} → (List ℕ → A) → A → List ℕ → List Token → A
-keyed read none k ts = if given k ts then read (value k ts) else none
+abbrev pub numberIf : ℕ → Bool → List ℕ → Decimal
+numberIf limit has v = if has then decimalOf limit v else record { good = true; number = 0 }
 
-abbrev pub numberIn : ℕ → List ℕ → List Token → Decimal
-numberIn limit k ts = keyed (decimalOf limit) (record { good = true; number = 0 }) k ts
+abbrev pub saltIf : Bool → List ℕ → Salt
+saltIf has v = if has then saltOf v else record { good = true; salt = pos 0 }
 
-abbrev pub saltIn : List Token → Salt
-saltIn ts = keyed saltOf (record { good = true; salt = pos 0 }) keyS ts
+abbrev pub chkIf : Bool → List ℕ → Chk
+chkIf has v = if has then chkOf v else record { good = true; chk = 0 }
 
-abbrev pub chkIn : List Token → Chk
-chkIn ts = keyed chkOf (record { good = true; chk = 0 }) keyChk ts
+-- the text of such a value: empty where it is missing
+abbrev pub textIf : Bool → List ℕ → List ℕ
+textIf has v = if has then v else []

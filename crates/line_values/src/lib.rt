@@ -2,8 +2,7 @@
 // Each reading answers whether the text is good, and what it says.
 ghost use mathlib.Core.Path.{_≡_};
 ghost use Prim.Native.Nat.{_≤_};
-ghost use Rattle.tokens.specs.Tokens.{tokens};
-ghost use Rattle.line_values.specs.Values.{decimalOf, saltOf, chkOf, masterOf, noPart, partOf, numberIn, saltIn, chkIn};
+ghost use Rattle.line_values.specs.Values.{decimalOf, masterOf, noPart, partOf, numberIf, saltIf, chkIf};
 
 pub struct Decimal {
     pub good: bool,
@@ -42,32 +41,6 @@ pub fn read_decimal(v: &[u8], limit: u64) -> Decimal
         text::Number::Malformed => Decimal {
             good: false,
             number: 0,
-        },
-    }
-}
-
-fn read_salt(v: &[u8]) -> Salt
-    ensures { λ r. ⌜ r ≡ saltOf (now (v .entry)) ⌝ }
-{
-    let n = text::read_signed(v);
-    match n {
-        text::Signed::Is(salt) => Salt { good: true, salt },
-        text::Signed::Malformed => Salt {
-            good: false,
-            salt: 0,
-        },
-    }
-}
-
-fn read_chk(v: &[u8]) -> Chk
-    ensures { λ r. ⌜ r ≡ chkOf (now (v .entry)) ⌝ }
-{
-    let n = text::read_chk(v);
-    match n {
-        text::Chk::Is(chk) => Chk { good: true, chk },
-        text::Chk::Malformed => Chk {
-            good: false,
-            chk: 0,
         },
     }
 }
@@ -114,37 +87,51 @@ pub fn read_part(v: &[u8]) -> Part
     }
 }
 
-// ---- the value of a key; where the key is not there, nothing is wrong, and the value is 0
+// ---- a value that may be missing: nothing is wrong then, and it is 0
 
-pub fn number_in(t: &[u8], key: &[u8], limit: u64) -> Decimal
-    ensures { λ r. ⌜ (r ≡ numberIn limit (now (key .entry)) (tokens (now (t .entry)))) × (r .number ≤ limit) ⌝ }
+pub fn number_if(has: bool, v: &[u8], limit: u64) -> Decimal
+    ensures { λ r. ⌜ (r ≡ numberIf limit has (now (v .entry))) × (r .number ≤ limit) ⌝ }
 {
-    if !tokens::is_given(t, key) {
+    if !has {
         return Decimal {
             good: true,
             number: 0,
         };
     }
-    read_decimal(tokens::value_of(t, key), limit)
+    read_decimal(v, limit)
 }
 
-pub fn salt_in(t: &[u8]) -> Salt
-    ensures { λ r. ⌜ r ≡ saltIn (tokens (now (t .entry))) ⌝ }
+pub fn salt_if(has: bool, v: &[u8]) -> Salt
+    ensures { λ r. ⌜ r ≡ saltIf has (now (v .entry)) ⌝ }
 {
-    if !tokens::is_given(t, b"s") {
+    if !has {
         return Salt {
             good: true,
             salt: 0,
         };
     }
-    read_salt(tokens::value_of(t, b"s"))
+    let n = text::read_signed(v);
+    match n {
+        text::Signed::Is(salt) => Salt { good: true, salt },
+        text::Signed::Malformed => Salt {
+            good: false,
+            salt: 0,
+        },
+    }
 }
 
-pub fn chk_in(t: &[u8]) -> Chk
-    ensures { λ r. ⌜ r ≡ chkIn (tokens (now (t .entry))) ⌝ }
+pub fn chk_if(has: bool, v: &[u8]) -> Chk
+    ensures { λ r. ⌜ r ≡ chkIf has (now (v .entry)) ⌝ }
 {
-    if !tokens::is_given(t, b"chk") {
+    if !has {
         return Chk { good: true, chk: 0 };
     }
-    read_chk(tokens::value_of(t, b"chk"))
+    let n = text::read_chk(v);
+    match n {
+        text::Chk::Is(chk) => Chk { good: true, chk },
+        text::Chk::Malformed => Chk {
+            good: false,
+            chk: 0,
+        },
+    }
 }

@@ -1,80 +1,20 @@
--- Bytes added to a draft one after the other: they are added as one text.
-use Prim.Native.Nat.{ℕ, suc, _+_, _≤_, _<_, min}
+-- Tokens added to a draft one after the other: they are added as one text.
+use Prim.Native.Nat.{ℕ, _+_, _<_, min}
 use mathlib.Core.Path.{_≡_, refl, sym, ap, _∙_}
 use mathlib.Core.Bool.{Bool, true, false}
 use mathlib.Core.List.{List, [], _∷_, _++_, append-assoc, append-nil, map}
 use native.Mathlib.Omega.{arith}
-use lib.ListN.{length, set, take, drop, getD, length-set, length-append, replicate, length-replicate, length-map, length-take, List·getD-map}
+use lib.ListN.{length, take, drop, getD, length-map, length-take, List·getD-map}
 use lib.Seq.{drop-length, getD-take}
-use borrow.Author.Tests.{le-leb, lt-leb, leb-true, leb-false}
-use Rattle.octets.specs.Words.{_≤?_}
-use Rattle.octets.specs.Bytes.{fits, placed}
 use Rattle.octets.proofs.Tests.{if-yes, if-no}
-use Rattle.octets.proofs.Lists.{placed-none, placed-next, length-placed, drop-next}
+use Rattle.octets.proofs.Lists.{drop-next}
 use Rattle.tokens.specs.Tokens.{Token, wordOf, spaced, space, equals}
 use Rattle.headers.specs.declared.Headers.{Headers}
 use Rattle.headers.proofs.Pairs.{noHeader}
 use Rattle.line.specs.Writing.{Choice, choice, chosen, headerToken, headerTokens}
-use Rattle.line_writer.specs.Steps.{fullDraft, added, keyPart, addTokens}
-use Rattle.line_writer.specs.declared.draft.Draft.{Draft}
-
-placed-append : (a b : List ℕ) (at : ℕ) (l : List ℕ) → at + length a + length b ≤ length l → placed b (at + length a) (placed a at l) ≡ placed (a ++ b) at l
-placed-append [] b at l h = let z : at + 0 ≡ at = omega arith in ap (λ (n : ℕ). placed b n (placed [] at l)) z ∙ ap (placed b at) (placed-none at l (omega arith))
-placed-append (x ∷ a) b at l h =
-    let z : at + suc (length a) ≡ at + 1 + length a = omega arith in
-    let k : at + 1 + length a + length b ≤ length (set l at x) = rw length-set (omega arith) in
-    let n : at + suc (length (a ++ b)) ≤ length l = rw length-append (omega arith) in
-    ap (λ (i : ℕ). placed b i (placed (x ∷ a) at l)) z
-    ∙ ap (placed b (at + 1 + length a)) (placed-next x a at l (omega arith))
-    ∙ placed-append a b (at + 1) (set l at x) k
-    ∙ sym (placed-next x (a ++ b) at l n)
-
--- ---- what fits, and what does not
-
-module _ (w : List ℕ) (d : Draft) where
-  pub added-fits : fits w (d .len) (d .bytes) ≡ true → added w d ≡ record { bytes = placed w (d .len) (d .bytes); len = d .len + length w }
-  unfolding added
-  added-fits e = if-yes _ _ _ e
-
-  pub added-full : fits w (d .len) (d .bytes) ≡ false → added w d ≡ fullDraft
-  unfolding added
-  added-full e = if-no _ _ _ e
-
--- what the code does: it places, and counts
-module _ (w : List ℕ) (d : Draft) (t : Bool) (e : t ≡ fits w (d .len) (d .bytes)) (n : ℕ) (k : n ≡ length w) where
-  pub sum-fits : length (d .bytes) ≡ 512 → t ≡ true → d .len + n ≤ 512
-  sum-fits h y = let l = leb-true (d .len + length w) (length (d .bytes)) (sym e ∙ y) in omega arith
-
-  pub added-by : (l : List ℕ) → l ≡ placed w (d .len) (d .bytes) → t ≡ true → record { bytes = l; len = d .len + n } ≡ added w d
-  added-by l q y = (λ i. record { bytes = q i; len = d .len + k i }) ∙ sym (added-fits w d (sym e ∙ y))
-
-stays-full : (w : List ℕ) → added w fullDraft ≡ fullDraft
-stays-full w = added-full w fullDraft (lt-leb (513 + length w) (length {A = ℕ} (replicate 512 0)) (omega (arith, length-replicate {A = ℕ} 512 0)))
-
-pub add-append : (a b : List ℕ) (d : Draft) → added b (added a d) ≡ added (a ++ b) d
-add-append a b d = go (fits a (d .len) (d .bytes)) refl (fits b (d .len + length a) (d .bytes)) refl
-  where
-    go : (p : Bool) → fits a (d .len) (d .bytes) ≡ p → (q : Bool) → fits b (d .len + length a) (d .bytes) ≡ q → added b (added a d) ≡ added (a ++ b) d
-    go false e q f =
-        let h = leb-false (d .len + length a) (length (d .bytes)) e in
-        ap (added b) (added-full a d e) ∙ stays-full b
-        ∙ sym (added-full (a ++ b) d (lt-leb (d .len + length (a ++ b)) (length (d .bytes)) (omega (arith, length-append a b))))
-    go true e false f =
-        let h = leb-false (d .len + length a + length b) (length (d .bytes)) f in
-        ap (added b) (added-fits a d e)
-        ∙ added-full b (record { bytes = placed a (d .len) (d .bytes); len = d .len + length a }) (ap (λ (n : ℕ). d .len + length a + length b ≤? n) (length-placed a (d .len) (d .bytes)) ∙ f)
-        ∙ sym (added-full (a ++ b) d (lt-leb (d .len + length (a ++ b)) (length (d .bytes)) (omega (arith, length-append a b))))
-    go true e true f =
-        let h = leb-true (d .len + length a + length b) (length (d .bytes)) f in
-        let z : d .len + length a + length b ≡ d .len + length (a ++ b) = omega (arith, length-append a b) in
-        ap (added b) (added-fits a d e)
-        ∙ added-fits b (record { bytes = placed a (d .len) (d .bytes); len = d .len + length a }) (ap (λ (n : ℕ). d .len + length a + length b ≤? n) (length-placed a (d .len) (d .bytes)) ∙ f)
-        ∙ (λ i. record { bytes = placed-append a b (d .len) (d .bytes) h i; len = z i })
-        ∙ sym (added-fits (a ++ b) d (le-leb (d .len + length (a ++ b)) (length (d .bytes)) (omega (arith, length-append a b))))
-
--- three texts, one behind the other
-pub add-three : (a b c : List ℕ) (d : Draft) → added c (added b (added a d)) ≡ added (a ++ (b ++ c)) d
-add-three a b c d = add-append b c (added a d) ∙ add-append a (b ++ c) d
+use Rattle.line_draft.specs.Draft.{Draft, draft, added, Adds}
+use Rattle.line_draft.proofs.Drafts.{add-three}
+use Rattle.line_writer.specs.Steps.{keyPart, addTokens}
 
 -- ---- tokens
 
@@ -146,7 +86,7 @@ module _ (h : Headers) (room : length (h .items) ≡ 8) (i : ℕ) where
   counted : length (headerTokens h) ≡ min (h .count) 8
   counted = length-map (take (h .count) (h .items)) headerToken ∙ length-take (h .count) (h .items) ∙ ap (min (h .count)) room
 
-  pub header-next : i < min (h .count) 8 → (d : Draft) → addTokens (drop i (headerTokens h)) d ≡ addTokens (drop (i + 1) (headerTokens h)) (addTokens (headerToken (getD (h .items) i noHeader) ∷ []) d)
+  header-next : i < min (h .count) 8 → (d : Draft) → addTokens (drop i (headerTokens h)) d ≡ addTokens (drop (i + 1) (headerTokens h)) (addTokens (headerToken (getD (h .items) i noHeader) ∷ []) d)
   header-next l d =
       let k : i < length (headerTokens h) = omega (arith, counted) in
       let m : i < h .count = omega (arith, counted) in
@@ -155,8 +95,27 @@ module _ (h : Headers) (room : length (h .items) ≡ 8) (i : ℕ) where
       ap (λ (ts : List Token). addTokens ts d) (drop-next (headerTokens h) i (headerToken noHeader) k ∙ ap (λ (t : Token). t ∷ drop (i + 1) (headerTokens h)) f)
       ∙ sym (tokens-append (headerToken (getD (h .items) i noHeader) ∷ []) (drop (i + 1) (headerTokens h)) d)
 
-  pub header-end : i ≡ min (h .count) 8 → (d : Draft) → addTokens (drop i (headerTokens h)) d ≡ d
+  header-end : i ≡ min (h .count) 8 → (d : Draft) → addTokens (drop i (headerTokens h)) d ≡ d
   unfolding addTokens
   header-end e d =
       let k : drop i (headerTokens h) ≡ [] = ap (λ (n : ℕ). drop n (headerTokens h)) (e ∙ sym counted) ∙ drop-length (headerTokens h) in
       ap (λ (ts : List Token). addTokens ts d) k
+
+-- the headers from the place i on are still to be added: what the loop keeps
+pub record Headed (h : Headers) (l : List ℕ) (at i next : ℕ) (x : List ℕ) : Type 0 where
+  pub rest-is : length l ≡ 512 → addTokens (headerTokens h) (draft l at) ≡ addTokens (drop i (headerTokens h)) (draft x next)
+  pub same : length x ≡ length l
+
+module _ (h : Headers) (l : List ℕ) (at : ℕ) where
+  pub headed-start : Headed h l at 0 at l
+  headed-start = record { rest-is = λ e. refl; same = refl }
+
+  module _ (room : length (h .items) ≡ 8) (i : ℕ) where
+    pub headed-next : i < min (h .count) 8 → {next r : ℕ} {x y : List ℕ} → Headed h l at i next x → Adds (addTokens (headerToken (getD (h .items) i noHeader) ∷ [])) x next r y → Headed h l at (i + 1) r y
+    headed-next k {next} {r} {x} {y} g a = record {
+      rest-is = λ e. g .rest-is e ∙ header-next h room i k (draft x next) ∙ ap (addTokens (drop (i + 1) (headerTokens h))) (sym (a .draft-is (g .same ∙ e)));
+      same = a .long ∙ g .same;
+    }
+
+    pub headed-end : i ≡ min (h .count) 8 → {next : ℕ} {x : List ℕ} → Headed h l at i next x → Adds (addTokens (headerTokens h)) l at next x
+    headed-end k {next} {x} g = record { draft-is = λ e. sym (g .rest-is e ∙ header-end h room i k (draft x next)); long = g .same }

@@ -22,12 +22,11 @@ use Rattle.line_groups.specs.Rules.{'p'}
 use Rattle.line.specs.Reading.{ihave}
 use Rattle.line.specs.Writing.{Choice, choice, chosen, partText, choicesOf, headerTokens, dstToken, tokensOf, bodyOf, chkToken, printOf, written, messageGood, writeRefusal}
 use Rattle.line.specs.declared.Line.{Line}
-use Rattle.line_writer.specs.Answer.{answerBy, leftBy, writeAnswer, writeLeft}
-use Rattle.line_writer.specs.Steps.{blankDraft, fullDraft, added, keyPart, addTokens}
-use Rattle.line_writer.specs.declared.draft.Draft.{Draft}
-use Rattle.line_writer.specs.declared.Writing.{Writing}
-use Rattle.line_writer.specs.declared.Writing.the-variants.{Written, Refused}
-use Rattle.line_writer.proofs.Drafts.{added-fits, added-full, add-append, add-three, tokens-append, tokens-text}
+use Rattle.line_draft.specs.Draft.{Draft, fullDraft, draft, added, Adds}
+use Rattle.line_draft.proofs.Drafts.{added-fits, added-full, add-append, add-three, adds-then}
+use Rattle.line_writer.specs.Answer.{Writing, Written, Refused, answerBy, leftBy, writeAnswer, writeLeft}
+use Rattle.line_writer.specs.Steps.{keyPart, addTokens}
+use Rattle.line_writer.proofs.Drafts.{tokens-append, tokens-text}
 
 -- ---- the tokens, group by group
 
@@ -85,84 +84,66 @@ module _ (m : Line) where
       tokens-append (headerTokens (m .fields .headers)) (dstToken m ∷ []) (addTokens (chosen (choicesOf m)) d)
       ∙ tokens-append (chosen (choicesOf m)) (headerTokens (m .fields .headers) ++ (dstToken m ∷ [])) d
 
-  pub body-by : addTokens (tokensOf m) (added (hexDigits 7 (m .fields .id)) (added (ihave ++ (space ∷ [])) blankDraft)) ≡ added (bodyOf m) blankDraft
+  body-by : (d : Draft) → addTokens (tokensOf m) (added (hexDigits 7 (m .fields .id)) (added (ihave ++ (space ∷ [])) d)) ≡ added (bodyOf m) d
   unfolding bodyOf
-  body-by =
-      ap (addTokens (tokensOf m)) (add-append (ihave ++ (space ∷ [])) (hexDigits 7 (m .fields .id)) blankDraft)
-      ∙ tokens-text (tokensOf m) ((ihave ++ (space ∷ [])) ++ hexDigits 7 (m .fields .id)) blankDraft
+  body-by d =
+      ap (addTokens (tokensOf m)) (add-append (ihave ++ (space ∷ [])) (hexDigits 7 (m .fields .id)) d)
+      ∙ tokens-text (tokensOf m) ((ihave ++ (space ∷ [])) ++ hexDigits 7 (m .fields .id)) d
 
-  pub body-whole : (x9 x8 x7 x6 x5 x4 x3 x2 x1 x0 x : Draft)
-      → x ≡ blankDraft
-      → x0 ≡ added (ihave ++ (space ∷ [])) x
-      → x1 ≡ added (hexDigits 7 (m .fields .id)) x0
-      → x2 ≡ addTokens (chosen payload) x1
-      → x3 ≡ addTokens (chosen salt) x2
-      → x4 ≡ addTokens (chosen ttl) x3
-      → x5 ≡ addTokens (chosen src) x4
-      → x6 ≡ addTokens (chosen fragment) x5
-      → x7 ≡ addTokens (chosen stream) x6
-      → x8 ≡ addTokens (headerTokens (m .fields .headers)) x7
-      → x9 ≡ addTokens (dstToken m ∷ []) x8
-      → x9 ≡ added (bodyOf m) blankDraft
-  body-whole x9 x8 x7 x6 x5 x4 x3 x2 x1 x0 x e e0 e1 e2 e3 e4 e5 e6 e7 e8 e9 =
-      e9
-      ∙ ap (addTokens (dstToken m ∷ [])) (e8
-      ∙ ap (addTokens (headerTokens (m .fields .headers))) (e7
-      ∙ ap (addTokens (chosen stream)) (e6
-      ∙ ap (addTokens (chosen fragment)) (e5
-      ∙ ap (addTokens (chosen src)) (e4
-      ∙ ap (addTokens (chosen ttl)) (e3
-      ∙ ap (addTokens (chosen salt)) (e2
-      ∙ ap (addTokens (chosen payload)) (e1
-      ∙ ap (added (hexDigits 7 (m .fields .id))) (e0 ∙ ap (added (ihave ++ (space ∷ []))) e))))))) ∙ all-choices _))
-      ∙ all-tokens _
-      ∙ body-by
+  -- group by group, as the code puts them
+  pub body-whole : (d : Draft)
+      → addTokens (dstToken m ∷ []) (addTokens (headerTokens (m .fields .headers)) (addTokens (chosen stream) (addTokens (chosen fragment) (addTokens (chosen src) (addTokens (chosen ttl) (addTokens (chosen salt)
+      (addTokens (chosen payload) (added (hexDigits 7 (m .fields .id)) (added (ihave ++ (space ∷ [])) d))))))))) ≡ added (bodyOf m) d
+  body-whole d = ap (λ (x : Draft). addTokens (dstToken m ∷ []) (addTokens (headerTokens (m .fields .headers)) x)) (all-choices _) ∙ all-tokens _ ∙ body-by d
 
--- ---- what a draft then holds
+-- ---- what the array then holds
 
-zeros-long : length {A = ℕ} (replicate 512 0) ≡ 512
-zeros-long = length-replicate {A = ℕ} 512 0
-
-pub record Holds (w : List ℕ) (d : Draft) : Type 0 where
+pub record Holds (w : List ℕ) (r : ℕ) (x : List ℕ) : Type 0 where
   pub short : length w ≤ 512
-  pub len-is : d .len ≡ length w
-  pub text-is : take (d .len - 0) (drop 0 (d .bytes)) ≡ w
+  pub len-is : r ≡ length w
+  pub text-is : take (r - 0) (drop 0 x) ≡ w
 
-module _ (w : List ℕ) (d : Draft) (e : d ≡ added w blankDraft) where
-  pub holds-long : 512 < d .len → (512 < length w) × (d ≡ fullDraft)
-  holds-long h = go (fits w 0 (replicate 512 0)) refl
+module _ (w l : List ℕ) (r : ℕ) (x : List ℕ) (long : length l ≡ 512) (a : Adds (added w) l 0 r x) where
+  abbrev start : Draft
+  start = record { bytes = l; len = 0 }
+
+  told : draft x r ≡ added w start
+  unfolding draft
+  told = a .draft-is long
+
+  pub holds-long : 512 < r → 512 < length w
+  unfolding draft
+  holds-long h = go (fits w 0 l) refl
     where
-      go : (t : Bool) → fits {A = ℕ} w 0 (replicate 512 0) ≡ t → (512 < length w) × (d ≡ fullDraft)
+      full : fullDraft ≡ added w start
+      full = sym (if-no _ _ _ (lt-leb r 512 h)) ∙ told
+
+      go : (t : Bool) → fits w 0 l ≡ t → 512 < length w
       go true f =
-          let k = leb-true (0 + length w) (length {A = ℕ} (replicate 512 0)) f in
-          let n : d .len ≡ 0 + length w = ap (λ (x : Draft). x .len) (e ∙ added-fits w blankDraft f) in
-          absurd (omega (arith, zeros-long))
-      go false f =
-          let k = leb-false (0 + length w) (length {A = ℕ} (replicate 512 0)) f in
-          (omega (arith, zeros-long), e ∙ added-full w blankDraft f)
+          let k = leb-true (0 + length w) (length l) f in
+          let n : 513 ≡ 0 + length w = ap (λ (d : Draft). d .len) (full ∙ added-fits w start f) in
+          absurd (omega arith)
+      go false f = let k = leb-false (0 + length w) (length l) f in omega arith
 
-  pub draft-long : length (d .bytes) ≡ 512
-  draft-long = go (fits w 0 (replicate 512 0)) refl
+  pub holds-short : r ≤ 512 → Holds w r x
+  unfolding draft
+  holds-short h = go (fits w 0 l) refl
     where
-      go : (t : Bool) → fits {A = ℕ} w 0 (replicate 512 0) ≡ t → length (d .bytes) ≡ 512
-      go true f = ap (λ (x : Draft). length (x .bytes)) (e ∙ added-fits w blankDraft f) ∙ length-placed w 0 (replicate 512 0) ∙ zeros-long
-      go false f = ap (λ (x : Draft). length (x .bytes)) (e ∙ added-full w blankDraft f) ∙ zeros-long
+      there : record { bytes = x; len = r } ≡ added w start
+      there = sym (if-yes _ _ _ (le-leb r 512 h)) ∙ told
 
-  pub holds-short : d .len ≤ 512 → Holds w d
-  holds-short h = go (fits w 0 (replicate 512 0)) refl
-    where
-      go : (t : Bool) → fits {A = ℕ} w 0 (replicate 512 0) ≡ t → Holds w d
-      go false f = let n : d .len ≡ 513 = ap (λ (x : Draft). x .len) (e ∙ added-full w blankDraft f) in absurd (omega arith)
+      go : (t : Bool) → fits w 0 l ≡ t → Holds w r x
+      go false f = let n : r ≡ 513 = ap (λ (d : Draft). d .len) (there ∙ added-full w start f) in absurd (omega arith)
       go true f =
-          let k = leb-true (0 + length w) (length {A = ℕ} (replicate 512 0)) f in
-          let g = e ∙ added-fits w blankDraft f in
-          let n : d .len ≡ 0 + length w = ap (λ (x : Draft). x .len) g in
-          let z : d .len - 0 ≡ length w = omega arith in
-          let b : d .bytes ≡ w ++ drop (0 + length w) (replicate 512 0) = ap (λ (x : Draft). x .bytes) g ∙ placed-in w 0 (replicate 512 0) k in
+          let k = leb-true (0 + length w) (length l) f in
+          let g = there ∙ added-fits w start f in
+          let n : r ≡ 0 + length w = ap (λ (d : Draft). d .len) g in
+          let z : r - 0 ≡ length w = omega arith in
+          let b : x ≡ w ++ drop (0 + length w) l = ap (λ (d : Draft). d .bytes) g ∙ placed-in w 0 l k in
           record {
-            short = omega (arith, zeros-long);
+            short = omega arith;
             len-is = omega arith;
-            text-is = ap (λ (i : ℕ). take i (d .bytes)) z ∙ ap (take (length w)) b ∙ take-at w (drop (0 + length w) (replicate 512 0)) (length w) refl;
+            text-is = ap (λ (i : ℕ). take i x) z ∙ ap (take (length w)) b ∙ take-at w (drop (0 + length w) l) (length w) refl;
           }
 
 -- ---- `chk`
@@ -170,25 +151,33 @@ module _ (w : List ℕ) (d : Draft) (e : d ≡ added w blankDraft) where
 chk-text : (h : List ℕ) → spaced (wordOf (record { key = keyChk; value = h }) ∷ []) ≡ keyPart keyChk ++ h
 chk-text h = ap (λ (l : List ℕ). keyPart keyChk ++ l) (append-nil h)
 
-module _ (m : Line) (d : Draft) (e : d ≡ added (bodyOf m) blankDraft) where
-  pub print-full : 512 < d .len → d ≡ added (printOf m) blankDraft
-  unfolding printOf
+module _ (m : Line) {l : List ℕ} {n : ℕ} {x : List ℕ} (a : Adds (added (bodyOf m)) l 0 n x) where
+  pub print-full : 512 < n → Adds (added (printOf m)) l 0 n x
+  unfolding printOf draft
   print-full h =
-      let k = holds-long (bodyOf m) d e h in
       let c = spaced (wordOf (chkToken (bodyOf m)) ∷ []) in
-      k .1 ∙ sym (added-full (bodyOf m ++ c) blankDraft (lt-leb (0 + length (bodyOf m ++ c)) (length {A = ℕ} (replicate 512 0)) (omega (arith, zeros-long, length-append (bodyOf m) c, k .0))))
+      record {
+        draft-is = λ e.
+            if-no _ _ _ (lt-leb n 512 h)
+            ∙ sym (added-full (bodyOf m ++ c) (record { bytes = l; len = 0 }) (lt-leb (0 + length (bodyOf m ++ c)) (length l) (omega (arith, length-append (bodyOf m) c, holds-long (bodyOf m) l n x e a h))));
+        long = a .long;
+      }
 
-  pub print-more : (chk : ℕ) (x y : Draft) → d .len ≤ 512 → chk ≡ crc16 (take (d .len - 0) (drop 0 (d .bytes))) → x ≡ added (keyPart keyChk) d → y ≡ added (hexDigits 4 chk) x
-      → y ≡ added (printOf m) blankDraft
+  pub print-more : (chk : ℕ) {k r : ℕ} {y z : List ℕ} → n ≤ 512 → chk ≡ crc16 (take n x) → Adds (added (keyPart keyChk)) x n k y → Adds (added (hexDigits 4 chk)) y k r z
+      → Adds (added (printOf m)) l 0 r z
   unfolding printOf
-  print-more chk x y h f p q =
-      let k = holds-short (bodyOf m) d e h in
-      let g : chk ≡ crc16 (bodyOf m) = f ∙ ap crc16 (k .text-is) in
-      q
-      ∙ ap (λ (n : ℕ). added (hexDigits 4 n) x) g
-      ∙ ap (added (hexDigits 4 (crc16 (bodyOf m)))) (p ∙ ap (added (keyPart keyChk)) e)
-      ∙ add-three (bodyOf m) (keyPart keyChk) (hexDigits 4 (crc16 (bodyOf m))) blankDraft
-      ∙ ap (λ (s : List ℕ). added (bodyOf m ++ s) blankDraft) (sym (chk-text (hexDigits 4 (crc16 (bodyOf m)))))
+  print-more chk {k} {r} {y} {z} h f p q =
+      let b = adds-then (adds-then a p) q in
+      record {
+        draft-is = λ e.
+            let i : n ≡ n - 0 = omega arith in
+            let g : chk ≡ crc16 (bodyOf m) = f ∙ ap crc16 (ap (λ (j : ℕ). take j x) i ∙ holds-short (bodyOf m) l n x e a h .text-is) in
+            b .draft-is e
+            ∙ ap (λ (j : ℕ). added (hexDigits 4 j) (added (keyPart keyChk) (added (bodyOf m) (draft l 0)))) g
+            ∙ add-three (bodyOf m) (keyPart keyChk) (hexDigits 4 (crc16 (bodyOf m))) (draft l 0)
+            ∙ ap (λ (s : List ℕ). added (bodyOf m ++ s) (draft l 0)) (sym (chk-text (hexDigits 4 (crc16 (bodyOf m)))));
+        long = b .long;
+      }
 
 -- ---- the answer
 

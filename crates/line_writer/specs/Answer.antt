@@ -5,8 +5,17 @@ use lib.ListN.{length}
 use Rattle.octets.specs.Bytes.{front}
 use Rattle.line.specs.Writing.{written, writeRefusal}
 use Rattle.line.specs.declared.Line.{Line}
-use Rattle.line_writer.specs.declared.Writing.{Writing}
-use Rattle.line_writer.specs.declared.Writing.the-variants.{Written, Refused}
+use Rattle.line_writer.specs.declared.LineWriting.{LineWriting}
+
+-- written, in so many bytes, its LF counted; refused, with the number of document 01's table
+pub data Writing : Type 0 where
+  Written : (bytes : ℕ) → Writing
+  Refused : (number : ℕ) → Writing
+
+-- the paper's number and values for each case of the answer's enum
+abbrev pub says : LineWriting → Writing
+says (LineWriting.Written n) = Written n
+says (LineWriting.Refused n) = Refused n
 
 -- by the number of the refusal, 0 where there is none: the number of bytes, its LF counted; the bytes at the front, or all as it was
 abbrev pub answerBy : ℕ → ℕ → Writing

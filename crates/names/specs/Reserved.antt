@@ -1,9 +1,9 @@
 -- Document 01, "Names and fields": the thirteen reserved keys.
-use Prim.Native.Nat.{ℕ}
+use Prim.Native.Nat.{ℕ, suc}
 use mathlib.Core.Bool.{Bool}
 use mathlib.Core.List.{List, [], _∷_}
 use lib.ListN.{take}
-use Rattle.octets.specs.Words.{some}
+use Rattle.octets.specs.Words.{if_then_else_, some}
 use Rattle.octets.specs.Bytes.{same}
 use Rattle.names.specs.declared.Word.{Word}
 
@@ -53,6 +53,14 @@ reservedKeys = keyLen ∷ keyFmt ∷ keyS ∷ keyClen ∷ keyDst ∷ keyChk ∷ 
 -- a key is reserved: it is one of them, byte for byte
 unfoldable pub reserved : List ℕ → Bool
 reserved k = some (same k) reservedKeys
+
+-- a text's place among texts: how many stand before it, all of them where it is not there
+unfoldable pub placeIn : List (List ℕ) → List ℕ → ℕ
+placeIn [] k = 0
+placeIn (x ∷ xs) k = if same k x then 0 else suc (placeIn xs k)
+
+unfoldable pub placeOf : List ℕ → ℕ
+placeOf k = placeIn reservedKeys k
 
 -- what a padded spelling says: its first len bytes
 unfoldable pub spelling : Word → List ℕ

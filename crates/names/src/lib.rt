@@ -1,6 +1,6 @@
 // Document 01, "Names and fields": stream id, header key and value, the thirteen reserved keys.
 ghost use mathlib.Core.Path.{_≡_};
-ghost use Rattle.names.specs.Reserved.{reserved};
+ghost use Rattle.names.specs.Reserved.{reserved, placeOf};
 ghost use Rattle.names.specs.Texts.{streamId, headerKey, headerValue};
 
 mod texts;
@@ -15,58 +15,85 @@ pub struct Word {
 // The thirteen reserved keys: len, fmt, s, clen, dst, chk, ttl, src, mid, frag, sid, sn, gt.
 pub const RESERVED: [Word; 13] = [
     Word {
-        text: [108, 101, 110, 0],
+        text: [b'l', b'e', b'n', 0],
         len: 3,
     },
     Word {
-        text: [102, 109, 116, 0],
+        text: [b'f', b'm', b't', 0],
         len: 3,
     },
     Word {
-        text: [115, 0, 0, 0],
+        text: [b's', 0, 0, 0],
         len: 1,
     },
     Word {
-        text: [99, 108, 101, 110],
+        text: [b'c', b'l', b'e', b'n'],
         len: 4,
     },
     Word {
-        text: [100, 115, 116, 0],
+        text: [b'd', b's', b't', 0],
         len: 3,
     },
     Word {
-        text: [99, 104, 107, 0],
+        text: [b'c', b'h', b'k', 0],
         len: 3,
     },
     Word {
-        text: [116, 116, 108, 0],
+        text: [b't', b't', b'l', 0],
         len: 3,
     },
     Word {
-        text: [115, 114, 99, 0],
+        text: [b's', b'r', b'c', 0],
         len: 3,
     },
     Word {
-        text: [109, 105, 100, 0],
+        text: [b'm', b'i', b'd', 0],
         len: 3,
     },
     Word {
-        text: [102, 114, 97, 103],
+        text: [b'f', b'r', b'a', b'g'],
         len: 4,
     },
     Word {
-        text: [115, 105, 100, 0],
+        text: [b's', b'i', b'd', 0],
         len: 3,
     },
     Word {
-        text: [115, 110, 0, 0],
+        text: [b's', b'n', 0, 0],
         len: 2,
     },
     Word {
-        text: [103, 116, 0, 0],
+        text: [b'g', b't', 0, 0],
         len: 2,
     },
 ];
+
+// The places of the keys in the table.
+pub const LEN: usize = 0;
+
+pub const FMT: usize = 1;
+
+pub const S: usize = 2;
+
+pub const CLEN: usize = 3;
+
+pub const DST: usize = 4;
+
+pub const CHK: usize = 5;
+
+pub const TTL: usize = 6;
+
+pub const SRC: usize = 7;
+
+pub const MID: usize = 8;
+
+pub const FRAG: usize = 9;
+
+pub const SID: usize = 10;
+
+pub const SN: usize = 11;
+
+pub const GT: usize = 12;
 
 // Whether a text is a stream id.
 pub fn is_stream_id(s: &[u8]) -> bool
@@ -75,20 +102,27 @@ pub fn is_stream_id(s: &[u8]) -> bool
     texts::is_id_text(s, 255)
 }
 
-// Whether a key is one of the thirteen reserved.
-pub fn is_reserved(s: &[u8]) -> bool
-    ensures { λ r. ⌜ r ≡ reserved (now (s .entry)) ⌝ }
+// A key's place in the table of the reserved keys: 13 where it is none of them.
+pub fn reserved_place(s: &[u8]) -> usize
+    ensures { λ r. ⌜ r ≡ placeOf (now (s .entry)) ⌝ }
 {
     let table = RESERVED;
     let mut i = 0;
     while i < 13 {
         let w = table[i];
         if words::spells(s, w) {
-            return true;
+            return i;
         }
         i += 1;
     }
-    false
+    i
+}
+
+// Whether a key is one of the thirteen reserved.
+fn is_reserved(s: &[u8]) -> bool
+    ensures { λ r. ⌜ r ≡ reserved (now (s .entry)) ⌝ }
+{
+    reserved_place(s) < 13
 }
 
 // Whether a text is a header's key.

@@ -21,17 +21,17 @@ pub use headers::Headers;
 // ---- the ihave line
 pub use line::Line;
 pub use line::LineAnswer;
-pub use line::Reading as LineReading;
+pub use line::LineReading;
 pub use line::read_line;
-pub use line_writer::Writing as LineWriting;
+pub use line_writer::LineWriting;
 pub use line_writer::write_line;
 
 // ---- the datagram
 pub use datagram::DatagramAnswer;
-pub use datagram::Reading as DatagramReading;
+pub use datagram::DatagramReading;
 pub use datagram::payload;
 pub use datagram::read_datagram;
-pub use datagram_writer::Writing as DatagramWriting;
+pub use datagram_writer::DatagramWriting;
 pub use datagram_writer::write_datagram;
 pub use layout::Datagram;
 pub use layout::Hops;
@@ -43,6 +43,7 @@ pub use session::Step;
 pub use session::Stepping;
 pub use session::feed;
 pub use session::open_session;
+pub use talk::Ending;
 pub use talk::Event;
 pub use talk::Session;
 pub use talk::Terms;
@@ -55,12 +56,12 @@ pub use image::save;
 pub use keys::Key as StreamKey;
 pub use rows::Accepting;
 pub use rows::Giving;
-pub use rows::Held;
+pub use places::Held;
 pub use rows::Row;
 pub use streams::Count;
 pub use streams::Served as TableServed;
 pub use streams::Shown;
-pub use streams::Slot;
+pub use slots::Slot;
 pub use streams::Table;
 pub use streams::Taken as TableTaken;
 

@@ -16,7 +16,7 @@ use Rattle.sha1.specs.declared.Sha1.{Sha1}
 use Rattle.sha1.specs.Machine.{finished}
 use Rattle.sha1.specs.Id.{idNumber}
 use Rattle.line.specs.declared.Line.{Line}
-use Rattle.line.specs.declared.Reading.{Reading}
+use Rattle.line.specs.Reading.{Reading}
 use Rattle.line.specs.Reading.{readOf}
 use Rattle.phrases.specs.declared.Kind.{Kind}
 use Rattle.phrases.specs.Lines.{kindOf, isData, tokenOf, tokenGood}

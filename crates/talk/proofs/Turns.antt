@@ -17,9 +17,7 @@ use Rattle.sha1.specs.Id.{saltBytes, idNumber}
 use Rattle.envelope.specs.declared.Envelope.{Envelope}
 use Rattle.envelope.specs.Texts.{blankEnvelope}
 use Rattle.line.specs.declared.Line.{Line}
-use Rattle.line.specs.declared.LineAnswer.{LineAnswer}
-use Rattle.line.specs.declared.Reading.{Reading}
-use Rattle.line.specs.Reading.{blankLine, readOf}
+use Rattle.line.specs.Reading.{blankLine, readOf, Outcome, Reading}
 use Rattle.phrases.specs.declared.Kind.{Kind}
 use Rattle.phrases.specs.Lines.{kindOf, isData}
 use Rattle.phrases.specs.Replies.{acks, bads, wrote}
@@ -106,10 +104,10 @@ pub terms-by : (m : Line) (z : ℤ) → z ≡ m .fields .salt → _≡_ {A = Ter
 terms-by m z e = λ i. record { id = m .fields .id; «has_salt» = m .fields .«has_salt»; salt = e i; len = m .len }
 
 -- the turn of what was read, where it is known which it is
-pub offered-as : (s buffer after : List ℕ) (a : LineAnswer) (x : Reading) (r : Telling) → a ≡ readOf s → x ≡ a .reading → Says (offered s x (a .line)) buffer r after
+pub offered-as : (s buffer after : List ℕ) (a : Outcome) (x : Reading) (r : Telling) → a ≡ readOf s → x ≡ a .reading → Says (offered s x (a .line)) buffer r after
     → Says (offered s (readOf s .reading) (readOf s .line)) buffer r after
 offered-as s buffer after a x r p q k =
-    subst (λ (y : LineAnswer). Says (offered s (y .reading) (y .line)) buffer r after) p (subst (λ (z : Reading). Says (offered s z (a .line)) buffer r after) q k)
+    subst (λ (y : Outcome). Says (offered s (y .reading) (y .line)) buffer r after) p (subst (λ (z : Reading). Says (offered s z (a .line)) buffer r after) q k)
 
 pub heard-as : (s buffer after : List ℕ) (k : Kind) (r : Telling) → k ≡ kindOf s → (x : Kind) → k ≡ x → Says (heardAs x s) buffer r after → Says (heard s) buffer r after
 unfolding heard

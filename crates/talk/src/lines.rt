@@ -6,12 +6,12 @@ use crate::Session;
 use crate::Terms;
 use crate::states;
 use line::Line;
-use line::Reading;
+use line::LineReading;
 use phrases::Reply;
 use sha1::Sha1;
 ghost use mathlib.Core.Path.{_≡_};
 ghost use Rattle.octets.specs.Bytes.{placed};
-ghost use Rattle.line.specs.declared.Reading.{Reading};
+ghost use Rattle.line.specs.Reading.{Reading};
 ghost use Rattle.line.specs.Reading.{blankLine, readOf};
 ghost use Rattle.phrases.specs.Replies.{replyText};
 ghost use Rattle.talk.specs.Answer.{happened, says};
@@ -54,8 +54,8 @@ pub(crate) fn hear_offer(s: &[u8], reply: &mut [u8]) -> Said
     let line = a.line;
     let reading = a.reading;
     match reading {
-        Reading::Refused(n) => ends(Reply::Error, s, n, reply),
-        Reading::Read => promise(line, s, reply),
+        LineReading::Refused(n) => ends(Reply::Error, s, n, reply),
+        LineReading::Read => promise(line, s, reply),
     }
 }
 

@@ -1,24 +1,36 @@
-// Document 01, "The ihave line": a text's words, and the `key=value` tokens that they are.
+// Document 01, "The ihave line": a text cut at a byte, as at a space or at the first `=`.
 // What is answered of a text is a part of the text.
 ghost use mathlib.Core.Path.{_≡_};
+ghost use Prim.Native.Nat.{_≤_};
+ghost use lib.ListN.{length};
 ghost use Rattle.tokens.specs.Cuts.{has, before, after};
-ghost use Rattle.tokens.specs.Tokens.{tokens, given, value, keyed};
 
-mod cuts;
-mod places;
+// How many bytes stand before the first `c`: all of them where there is none.
+pub fn bytes_before(s: &[u8], c: u8) -> usize
+    ensures { λ r. ⌜ (r ≡ length (before c (now (s .entry)))) × (r ≤ length (now (s .entry))) ⌝ }
+{
+    let mut i = 0;
+    while i < s.len() {
+        if s[i] == c {
+            return i;
+        }
+        i += 1;
+    }
+    i
+}
 
 // Whether the byte `c` stands in a text.
 pub fn has_byte(s: &[u8], c: u8) -> bool
     ensures { λ r. ⌜ r ≡ has c (now (s .entry)) ⌝ }
 {
-    cuts::run(s, c) < s.len()
+    bytes_before(s, c) < s.len()
 }
 
 // What stands before the first `c`: all of the text where there is none.
 pub fn before_byte(s: &[u8], c: u8) -> &[u8]
     ensures { λ r. ⌜ now r ≡ before c (now (s .entry)) ⌝ }
 {
-    let n = cuts::run(s, c);
+    let n = bytes_before(s, c);
     &s[0..n]
 }
 
@@ -26,50 +38,9 @@ pub fn before_byte(s: &[u8], c: u8) -> &[u8]
 pub fn after_byte(s: &[u8], c: u8) -> &[u8]
     ensures { λ r. ⌜ now r ≡ after c (now (s .entry)) ⌝ }
 {
-    let n = cuts::run(s, c);
+    let n = bytes_before(s, c);
     if n == s.len() {
         return &s[n..];
     }
     &s[n + 1..]
-}
-
-// Whether a key is there.
-pub fn is_given(s: &[u8], key: &[u8]) -> bool
-    ensures { λ r. ⌜ r ≡ given (now (key .entry)) (tokens (now (s .entry))) ⌝ }
-{
-    let f = places::find(s, key);
-    match f {
-        places::Found::At(_) => true,
-        places::Found::Missing => false,
-    }
-}
-
-// A key's value: nothing where the key is not there.
-pub fn value_of<'a>(s: &'a [u8], key: &[u8]) -> &'a [u8]
-    ensures { λ r. ⌜ now r ≡ value (now (key .entry)) (tokens (now (s .entry))) ⌝ }
-{
-    let f = places::find(s, key);
-    match f {
-        places::Found::At(at) => after_byte(before_byte(&s[at..], b' '), b'='),
-        places::Found::Missing => &s[0..0],
-    }
-}
-
-// Whether every word has its `=`, no key stands twice, and `chk` is last.
-pub fn are_keyed(s: &[u8]) -> bool
-    ensures { λ r. ⌜ r ≡ keyed (now (s .entry)) ⌝ }
-{
-    let mut at = 0;
-    while at <= s.len() {
-        let word = before_byte(&s[at..], b' ');
-        let end = at + word.len();
-        if !has_byte(word, b'=') {
-            return false;
-        }
-        if !places::may_stand(s, before_byte(word, b'='), end) {
-            return false;
-        }
-        at = end + 1;
-    }
-    true
 }

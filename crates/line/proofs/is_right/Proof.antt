@@ -1,7 +1,6 @@
 -- No check; a check that differs; one that does not.
 use borrow.Author.Needs.{needs}
 use borrow.Author.Tests.{not-true, not-false}
-use Rattle.tokens.specs.Cuts.{before}
 use Rattle.line.proofs.Texts.{right-none, right-not, right-yes}
 use Rattle.line.proofs.is_right.Statement.{statement}
 use Rattle.line.proofs.is_right.Tie as tie

@@ -2,99 +2,91 @@
 use mathlib.Core.Path.{sym, _∙_}
 use borrow.Author.Needs.{needs}
 use borrow.Author.Tests.{not-true, not-false}
-use Rattle.tokens.specs.Cuts.{before}
-use Rattle.line.proofs.Refusals.{line-frame, line-values, line-envelope, line-chk, line-deflated, line-long, line-read}
+use Rattle.line.proofs.Refusals.{line-head, line-values, line-envelope, line-chk, line-deflated, line-long, line-read}
 use Rattle.line.proofs.read_line.Statement.{statement}
 use Rattle.line.proofs.read_line.Tie as tie
 
 returns : tie.Need-returns
 returns c =
-    let at-args = c .before .before .before .before .args in
-    let at-is-framed = c .before .before .is-framed in
-    line-frame (at-args .s .now) (sym (at-is-framed .ensures) ∙ not-true _ (c .before .if1 .taken)) (c .refuse .result) (c .refuse .ensures)
+    let at-args = c .before .before .before .before .before .args in
+    let at-read-head = c .before .before .before .read-head in
+    line-head (at-args .s .now) (at-read-head .result) (at-read-head .ensures) (not-true _ (c .before .if1 .taken)) (c .refuse .result) (c .refuse .ensures)
 
 returns-2 : tie.Need-returns-2
 returns-2 c =
     let at-args = c .before .before .before .before .before .before .before .before .before .args in
-    let at-is-framed = c .before .before .before .before .before .before .before .is-framed in
-    let at-if1 = c .before .before .before .before .before .before .if1 in
-    let at-read-id = c .before .before .before .before .before .read-id in
+    let at-read-head = c .before .before .before .before .before .before .before .read-head in
+    let at-if1 = c .before .before .before .before .before .if1 in
     let at-rest = c .before .before .before .before .rest in
     let at-read-values = c .before .before .before .read-values in
-    line-values (at-args .s .now) (sym (at-is-framed .ensures) ∙ not-false _ (at-if1 .left)) (at-read-id .result) (at-read-id .ensures) (at-rest .result .now) (at-rest .ensures) (at-read-values .result) (at-read-values .ensures) (not-true _ (c .before .if2 .taken)) (c .refuse2 .result) (c .refuse2 .ensures)
+    line-values (at-args .s .now) (at-read-head .result) (at-read-head .ensures) (not-false _ (at-if1 .left)) (at-rest .result .now) (at-rest .ensures) (at-read-values .result) (at-read-values .ensures) (not-true _ (c .before .if2 .taken)) (c .refuse2 .result) (c .refuse2 .ensures)
 
 returns-3 : tie.Need-returns-3
 returns-3 c =
-    let at-args = c .before .before .before .before .before .before .before .before .before .before .before .before .args in
-    let at-is-framed = c .before .before .before .before .before .before .before .before .before .before .is-framed in
-    let at-if1 = c .before .before .before .before .before .before .before .before .before .if1 in
-    let at-read-id = c .before .before .before .before .before .before .before .before .read-id in
-    let at-rest = c .before .before .before .before .before .before .before .rest in
-    let at-read-values = c .before .before .before .before .before .before .read-values in
-    let at-if2 = c .before .before .before .before .if2 in
-    let at-is-valid = c .before .before .is-valid in
-    line-envelope (at-args .s .now) (sym (at-is-framed .ensures) ∙ not-false _ (at-if1 .left)) (at-read-id .result) (at-read-id .ensures) (at-rest .result .now) (at-rest .ensures) (at-read-values .result) (at-read-values .ensures) (not-false _ (at-if2 .left)) (at-is-valid .result) (at-is-valid .ensures) (not-true _ (c .before .if3 .taken)) (c .refuse3 .result) (c .refuse3 .ensures)
-
-returns-4 : tie.Need-returns-4
-returns-4 c =
     let at-args = c .before .before .before .before .before .before .before .before .before .before .before .before .before .before .args in
-    let at-is-framed = c .before .before .before .before .before .before .before .before .before .before .before .before .is-framed in
-    let at-if1 = c .before .before .before .before .before .before .before .before .before .before .before .if1 in
-    let at-read-id = c .before .before .before .before .before .before .before .before .before .before .read-id in
+    let at-read-head = c .before .before .before .before .before .before .before .before .before .before .before .before .read-head in
+    let at-if1 = c .before .before .before .before .before .before .before .before .before .before .if1 in
     let at-rest = c .before .before .before .before .before .before .before .before .before .rest in
     let at-read-values = c .before .before .before .before .before .before .before .before .read-values in
     let at-if2 = c .before .before .before .before .before .before .if2 in
-    let at-if3 = c .before .before .before .if3 in
     let at-is-valid = c .before .before .before .before .is-valid in
-    let at-is-right = c .before .before .is-right in
-    line-chk (at-args .s .now) (sym (at-is-framed .ensures) ∙ not-false _ (at-if1 .left)) (at-read-id .result) (at-read-id .ensures) (at-rest .result .now) (at-rest .ensures) (at-read-values .result) (at-read-values .ensures) (not-false _ (at-if2 .left)) (sym (not-false _ (at-if3 .left)) ∙ at-is-valid .ensures) (sym (not-true _ (c .before .if4 .taken)) ∙ at-is-right .ensures) (c .refuse4 .result) (c .refuse4 .ensures)
+    line-envelope (at-args .s .now) (at-read-head .result) (at-read-head .ensures) (not-false _ (at-if1 .left)) (at-rest .result .now) (at-rest .ensures) (at-read-values .result) (at-read-values .ensures) (not-false _ (at-if2 .left)) (at-is-valid .result) (at-is-valid .ensures) (not-true _ (c .before .if3 .taken)) (c .refuse3 .result) (c .refuse3 .ensures)
 
-returns-5 : tie.Need-returns-5
-returns-5 c =
+returns-4 : tie.Need-returns-4
+returns-4 c =
     let at-args = c .before .before .before .before .before .before .before .before .before .before .before .before .before .before .before .args in
-    let at-is-framed = c .before .before .before .before .before .before .before .before .before .before .before .before .before .is-framed in
-    let at-if1 = c .before .before .before .before .before .before .before .before .before .before .before .before .if1 in
-    let at-read-id = c .before .before .before .before .before .before .before .before .before .before .before .read-id in
+    let at-read-head = c .before .before .before .before .before .before .before .before .before .before .before .before .before .read-head in
+    let at-if1 = c .before .before .before .before .before .before .before .before .before .before .before .if1 in
     let at-rest = c .before .before .before .before .before .before .before .before .before .before .rest in
     let at-read-values = c .before .before .before .before .before .before .before .before .before .read-values in
     let at-if2 = c .before .before .before .before .before .before .before .if2 in
-    let at-if3 = c .before .before .before .before .if3 in
+    let at-if3 = c .before .before .if3 in
     let at-is-valid = c .before .before .before .before .before .is-valid in
+    let at-is-right = c .before .before .before .before .is-right in
+    line-chk (at-args .s .now) (at-read-head .result) (at-read-head .ensures) (not-false _ (at-if1 .left)) (at-rest .result .now) (at-rest .ensures) (at-read-values .result) (at-read-values .ensures) (not-false _ (at-if2 .left)) (sym (not-false _ (at-if3 .left)) ∙ at-is-valid .ensures) (sym (not-true _ (c .before .if4 .taken)) ∙ at-is-right .ensures) (c .refuse4 .result) (c .refuse4 .ensures)
+
+returns-5 : tie.Need-returns-5
+returns-5 c =
+    let at-args = c .before .before .before .before .before .before .before .before .before .before .before .before .before .before .before .before .args in
+    let at-read-head = c .before .before .before .before .before .before .before .before .before .before .before .before .before .before .read-head in
+    let at-if1 = c .before .before .before .before .before .before .before .before .before .before .before .before .if1 in
+    let at-rest = c .before .before .before .before .before .before .before .before .before .before .before .rest in
+    let at-read-values = c .before .before .before .before .before .before .before .before .before .before .read-values in
+    let at-if2 = c .before .before .before .before .before .before .before .before .if2 in
+    let at-if3 = c .before .before .before .if3 in
+    let at-is-valid = c .before .before .before .before .before .before .is-valid in
     let at-if4 = c .before .before .if4 in
-    let at-is-right = c .before .before .before .is-right in
-    line-deflated (at-args .s .now) (sym (at-is-framed .ensures) ∙ not-false _ (at-if1 .left)) (at-read-id .result) (at-read-id .ensures) (at-rest .result .now) (at-rest .ensures) (at-read-values .result) (at-read-values .ensures) (not-false _ (at-if2 .left)) (sym (not-false _ (at-if3 .left)) ∙ at-is-valid .ensures) (sym (not-false _ (at-if4 .left)) ∙ at-is-right .ensures) (c .before .if5 .taken) (c .refuse5 .result) (c .refuse5 .ensures)
+    let at-is-right = c .before .before .before .before .before .is-right in
+    line-deflated (at-args .s .now) (at-read-head .result) (at-read-head .ensures) (not-false _ (at-if1 .left)) (at-rest .result .now) (at-rest .ensures) (at-read-values .result) (at-read-values .ensures) (not-false _ (at-if2 .left)) (sym (not-false _ (at-if3 .left)) ∙ at-is-valid .ensures) (sym (not-false _ (at-if4 .left)) ∙ at-is-right .ensures) (c .before .if5 .taken) (c .refuse5 .result) (c .refuse5 .ensures)
 
 returns-6 : tie.Need-returns-6
 returns-6 c =
     let at-args = c .before .before .before .before .before .before .before .before .before .before .before .before .before .before .before .before .before .args in
-    let at-is-framed = c .before .before .before .before .before .before .before .before .before .before .before .before .before .before .before .is-framed in
-    let at-if1 = c .before .before .before .before .before .before .before .before .before .before .before .before .before .before .if1 in
-    let at-read-id = c .before .before .before .before .before .before .before .before .before .before .before .before .before .read-id in
+    let at-read-head = c .before .before .before .before .before .before .before .before .before .before .before .before .before .before .before .read-head in
+    let at-if1 = c .before .before .before .before .before .before .before .before .before .before .before .before .before .if1 in
     let at-rest = c .before .before .before .before .before .before .before .before .before .before .before .before .rest in
     let at-read-values = c .before .before .before .before .before .before .before .before .before .before .before .read-values in
     let at-if2 = c .before .before .before .before .before .before .before .before .before .if2 in
-    let at-if3 = c .before .before .before .before .before .before .if3 in
+    let at-if3 = c .before .before .before .before .if3 in
     let at-is-valid = c .before .before .before .before .before .before .before .is-valid in
-    let at-if4 = c .before .before .before .before .if4 in
-    let at-is-right = c .before .before .before .before .before .is-right in
-    let at-if5 = c .before .before .before .if5 in
-    line-long (at-args .s .now) (sym (at-is-framed .ensures) ∙ not-false _ (at-if1 .left)) (at-read-id .result) (at-read-id .ensures) (at-rest .result .now) (at-rest .ensures) (at-read-values .result) (at-read-values .ensures) (not-false _ (at-if2 .left)) (sym (not-false _ (at-if3 .left)) ∙ at-is-valid .ensures) (sym (not-false _ (at-if4 .left)) ∙ at-is-right .ensures) (at-if5 .left) (c .before .if6 .taken) (c .refuse6 .result) (c .refuse6 .ensures)
+    let at-if4 = c .before .before .before .if4 in
+    let at-is-right = c .before .before .before .before .before .before .is-right in
+    let at-if5 = c .before .before .if5 in
+    line-long (at-args .s .now) (at-read-head .result) (at-read-head .ensures) (not-false _ (at-if1 .left)) (at-rest .result .now) (at-rest .ensures) (at-read-values .result) (at-read-values .ensures) (not-false _ (at-if2 .left)) (sym (not-false _ (at-if3 .left)) ∙ at-is-valid .ensures) (sym (not-false _ (at-if4 .left)) ∙ at-is-right .ensures) (at-if5 .left) (c .before .if6 .taken) (c .refuse6 .result) (c .refuse6 .ensures)
 
 returns-7 : tie.Need-returns-7
 returns-7 c =
     let at-args = c .before .before .before .before .before .before .before .before .before .before .before .before .before .before .before .before .args in
-    let at-is-framed = c .before .before .before .before .before .before .before .before .before .before .before .before .before .before .is-framed in
-    let at-if1 = c .before .before .before .before .before .before .before .before .before .before .before .before .before .if1 in
-    let at-read-id = c .before .before .before .before .before .before .before .before .before .before .before .before .read-id in
+    let at-read-head = c .before .before .before .before .before .before .before .before .before .before .before .before .before .before .read-head in
+    let at-if1 = c .before .before .before .before .before .before .before .before .before .before .before .before .if1 in
     let at-rest = c .before .before .before .before .before .before .before .before .before .before .before .rest in
     let at-read-values = c .before .before .before .before .before .before .before .before .before .before .read-values in
     let at-if2 = c .before .before .before .before .before .before .before .before .if2 in
-    let at-if3 = c .before .before .before .before .before .if3 in
+    let at-if3 = c .before .before .before .if3 in
     let at-is-valid = c .before .before .before .before .before .before .is-valid in
-    let at-if4 = c .before .before .before .if4 in
-    let at-is-right = c .before .before .before .before .is-right in
-    let at-if5 = c .before .before .if5 in
-    line-read (at-args .s .now) (sym (at-is-framed .ensures) ∙ not-false _ (at-if1 .left)) (at-read-id .result) (at-read-id .ensures) (at-rest .result .now) (at-rest .ensures) (at-read-values .result) (at-read-values .ensures) (not-false _ (at-if2 .left)) (sym (not-false _ (at-if3 .left)) ∙ at-is-valid .ensures) (sym (not-false _ (at-if4 .left)) ∙ at-is-right .ensures) (at-if5 .left) (c .if6 .left)
+    let at-if4 = c .before .before .if4 in
+    let at-is-right = c .before .before .before .before .before .is-right in
+    line-read (at-args .s .now) (at-read-head .result) (at-read-head .ensures) (not-false _ (at-if1 .left)) (at-rest .result .now) (at-rest .ensures) (at-read-values .result) (at-read-values .ensures) (not-false _ (at-if2 .left)) (sym (not-false _ (at-if3 .left)) ∙ at-is-valid .ensures) (sym (not-false _ (at-if4 .left)) ∙ at-is-right .ensures) (c .before .if5 .left) (c .if6 .left)
 
 pub read-line-spec : {M : Type 1} → statement M
 read-line-spec =
@@ -106,17 +98,16 @@ read-line-spec =
     (λ c κs. search needs)
     (λ c κs. search needs)
     (λ c κs. search needs)
-    (λ c κs. search needs)
     returns-2
     (λ c κs. search needs)
     (λ c κs. search needs)
-    returns-3
+    (λ c. search needs)
     (λ c κs. search needs)
+    returns-3
     (λ c κs. search needs)
     returns-4
     (λ c κs. search needs)
     returns-5
-    (λ c. search needs)
     (λ c κs. search needs)
     returns-6
     returns-7)

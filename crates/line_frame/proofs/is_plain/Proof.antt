@@ -5,8 +5,8 @@ use borrow.Author.Needs.{needs}
 use lib.ListN.{length, drop}
 use Rattle.octets.specs.Words.{every}
 use Rattle.octets.proofs.Lists.{every-next, every-not, every-end}
-use Rattle.line_frame.specs.Frame.{plain}
 use Rattle.tokens.specs.Cuts.{before}
+use Rattle.line_frame.specs.Frame.{plain}
 use Rattle.line_frame.proofs.Plain.{not-low, not-del, is-plain}
 use Rattle.line_frame.proofs.is_plain.Statement.{statement}
 use Rattle.line_frame.proofs.is_plain.Tie as tie

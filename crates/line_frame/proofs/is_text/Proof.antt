@@ -4,8 +4,8 @@ use borrow.Author.Needs.{needs}
 use borrow.Author.Tests.{le-leb, lt-leb, not-true, not-false}
 use lib.ListN.{length}
 use Rattle.octets.proofs.Tests.{and-next, and-not-left}
-use Rattle.line_frame.specs.Frame.{isText}
 use Rattle.tokens.specs.Cuts.{before}
+use Rattle.line_frame.specs.Frame.{isText}
 use Rattle.line_frame.proofs.Plain.{is-plain}
 use Rattle.line_frame.proofs.is_text.Statement.{statement}
 use Rattle.line_frame.proofs.is_text.Tie as tie

@@ -1,88 +1,60 @@
 -- No `mid`; no `frag`; one of them malformed; both good.
-use mathlib.Core.Path.{sym, _∙_}
 use borrow.Author.Needs.{needs}
 use borrow.Author.Tests.{not-true, not-false}
-use Rattle.tokens.specs.Tokens.{tokens}
 use Rattle.line_groups.proofs.Groups.{fragment-none, fragment-lone, fragment-mid, fragment-frag, fragment-both}
 use Rattle.line_groups.proofs.read_fragment.Statement.{statement}
 use Rattle.line_groups.proofs.read_fragment.Tie as tie
 
 returns : tie.Need-returns
 returns c =
-    let at-args = c .before .before .before .before .before .before .before .args in
-    let at-is-given = c .before .before .before .before .is-given in
-    let at-if1 = c .before .before .before .if1 in
-    let at-is-given2 = c .before .is-given2 in
-    fragment-none (tokens (at-args .t .now)) (sym (at-is-given .ensures) ∙ not-true _ (at-if1 .taken)) (at-is-given2 .result) (at-is-given2 .ensures) (c .no-fragment .result) (c .no-fragment .ensures)
+    let at-args = c .before .before .before .before .args in
+    fragment-none (at-args .mid .now) (at-args .frag .now) (at-args .has-mid) (at-args .has-frag) (not-true _ (c .before .if1 .taken)) (c .no-fragment .result) (c .no-fragment .ensures)
 
 returns-2 : tie.Need-returns-2
 returns-2 c =
-    let at-args = c .before .before .before .before .before .before .before .before .args in
-    let at-is-given = c .before .before .before .before .before .is-given in
-    let at-if1 = c .before .before .before .before .if1 in
-    let at-is-given3 = c .before .before .is-given3 in
-    fragment-lone (tokens (at-args .t .now)) (sym (at-is-given .ensures) ∙ not-false _ (at-if1 .left)) (sym (at-is-given3 .ensures) ∙ not-true _ (c .before .if2 .taken)) (c .no-fragment2 .result) (c .no-fragment2 .ensures)
+    let at-args = c .before .before .before .before .before .args in
+    let at-if1 = c .before .before .if1 in
+    fragment-lone (at-args .mid .now) (at-args .frag .now) (at-args .has-mid) (at-args .has-frag) (not-false _ (at-if1 .left)) (not-true _ (c .before .if2 .taken)) (c .no-fragment2 .result) (c .no-fragment2 .ensures)
 
 returns-3 : tie.Need-returns-3
 returns-3 c =
-    let at-args = c .before .before .before .before .before .before .before .before .before .before .before .before .before .args in
-    let at-is-given = c .before .before .before .before .before .before .before .before .before .before .is-given in
-    let at-if1 = c .before .before .before .before .before .before .before .before .before .if1 in
-    let at-is-given3 = c .before .before .before .before .before .before .before .is-given3 in
-    let at-if2 = c .before .before .before .before .before .before .if2 in
-    let at-value-of = c .before .before .before .before .value-of in
+    let at-args = c .before .before .before .before .before .before .before .before .args in
+    let at-if1 = c .before .before .before .before .before .if1 in
+    let at-if2 = c .before .before .before .before .if2 in
     let at-read-master = c .before .before .before .read-master in
-    fragment-mid (tokens (at-args .t .now)) (sym (at-is-given .ensures) ∙ not-false _ (at-if1 .left)) (sym (at-is-given3 .ensures) ∙ not-false _ (at-if2 .left)) (at-value-of .result .now) (at-value-of .ensures) (at-read-master .result) (at-read-master .ensures) (not-true _ (c .before .if3 .taken)) (c .no-fragment3 .result) (c .no-fragment3 .ensures)
+    fragment-mid (at-args .mid .now) (at-args .frag .now) (at-args .has-mid) (at-args .has-frag) (not-false _ (at-if1 .left)) (not-false _ (at-if2 .left)) (at-read-master .result) (at-read-master .ensures) (not-true _ (c .before .if3 .taken)) (c .no-fragment3 .result) (c .no-fragment3 .ensures)
 
 returns-4 : tie.Need-returns-4
 returns-4 c =
-    let at-args = c .before .before .before .before .before .before .before .before .before .before .before .before .before .before .before .before .before .before .args in
-    let at-is-given = c .before .before .before .before .before .before .before .before .before .before .before .before .before .before .before .is-given in
-    let at-if1 = c .before .before .before .before .before .before .before .before .before .before .before .before .before .before .if1 in
-    let at-is-given3 = c .before .before .before .before .before .before .before .before .before .before .before .before .is-given3 in
-    let at-if2 = c .before .before .before .before .before .before .before .before .before .before .before .if2 in
-    let at-value-of = c .before .before .before .before .before .before .before .before .before .value-of in
-    let at-read-master = c .before .before .before .before .before .before .before .before .read-master in
-    let at-if3 = c .before .before .before .before .before .before .if3 in
-    let at-value-of2 = c .before .before .before .before .value-of2 in
+    let at-args = c .before .before .before .before .before .before .before .before .before .before .before .args in
+    let at-if1 = c .before .before .before .before .before .before .before .before .if1 in
+    let at-if2 = c .before .before .before .before .before .before .before .if2 in
+    let at-read-master = c .before .before .before .before .before .before .read-master in
+    let at-if3 = c .before .before .before .before .if3 in
     let at-read-part = c .before .before .before .read-part in
-    fragment-frag (tokens (at-args .t .now)) (sym (at-is-given .ensures) ∙ not-false _ (at-if1 .left)) (sym (at-is-given3 .ensures) ∙ not-false _ (at-if2 .left)) (at-value-of .result .now) (at-value-of .ensures) (at-read-master .result) (at-read-master .ensures) (not-false _ (at-if3 .left)) (at-value-of2 .result .now) (at-value-of2 .ensures) (at-read-part .result) (at-read-part .ensures) (not-true _ (c .before .if4 .taken)) (c .no-fragment4 .result) (c .no-fragment4 .ensures)
+    fragment-frag (at-args .mid .now) (at-args .frag .now) (at-args .has-mid) (at-args .has-frag) (not-false _ (at-if1 .left)) (not-false _ (at-if2 .left)) (at-read-master .result) (at-read-master .ensures) (not-false _ (at-if3 .left)) (at-read-part .result) (at-read-part .ensures) (not-true _ (c .before .if4 .taken)) (c .no-fragment4 .result) (c .no-fragment4 .ensures)
 
 returns-5 : tie.Need-returns-5
 returns-5 c =
-    let at-args = c .before .before .before .before .before .before .before .before .before .before .before .before .before .before .before .before .before .args in
-    let at-is-given = c .before .before .before .before .before .before .before .before .before .before .before .before .before .before .is-given in
-    let at-if1 = c .before .before .before .before .before .before .before .before .before .before .before .before .before .if1 in
-    let at-is-given3 = c .before .before .before .before .before .before .before .before .before .before .before .is-given3 in
-    let at-if2 = c .before .before .before .before .before .before .before .before .before .before .if2 in
-    let at-value-of = c .before .before .before .before .before .before .before .before .value-of in
-    let at-read-master = c .before .before .before .before .before .before .before .read-master in
-    let at-if3 = c .before .before .before .before .before .if3 in
-    let at-value-of2 = c .before .before .before .value-of2 in
+    let at-args = c .before .before .before .before .before .before .before .before .before .before .args in
+    let at-if1 = c .before .before .before .before .before .before .before .if1 in
+    let at-if2 = c .before .before .before .before .before .before .if2 in
+    let at-read-master = c .before .before .before .before .before .read-master in
+    let at-if3 = c .before .before .before .if3 in
     let at-read-part = c .before .before .read-part in
-    fragment-both (tokens (at-args .t .now)) (sym (at-is-given .ensures) ∙ not-false _ (at-if1 .left)) (sym (at-is-given3 .ensures) ∙ not-false _ (at-if2 .left)) (at-value-of .result .now) (at-value-of .ensures) (at-read-master .result) (at-read-master .ensures) (not-false _ (at-if3 .left)) (at-value-of2 .result .now) (at-value-of2 .ensures) (at-read-part .result) (at-read-part .ensures) (not-false _ (c .if4 .left))
+    fragment-both (at-args .mid .now) (at-args .frag .now) (at-args .has-mid) (at-args .has-frag) (not-false _ (at-if1 .left)) (not-false _ (at-if2 .left)) (at-read-master .result) (at-read-master .ensures) (not-false _ (at-if3 .left)) (at-read-part .result) (at-read-part .ensures) (not-false _ (c .if4 .left))
 
 pub read-fragment-spec : {M : Type 1} → statement M
 read-fragment-spec =
     tie.close
     (tie.spec
-    (λ c. search needs)
-    (λ c κs. search needs)
-    (λ c. search needs)
-    (λ c κs. search needs)
     (λ c κs. search needs)
     returns
-    (λ c. search needs)
-    (λ c κs. search needs)
     (λ c κs. search needs)
     returns-2
-    (λ c. search needs)
-    (λ c κs. search needs)
     (λ c κs. search needs)
     (λ c κs. search needs)
     returns-3
-    (λ c. search needs)
-    (λ c κs. search needs)
     (λ c κs. search needs)
     (λ c κs. search needs)
     returns-4

@@ -1,106 +1,73 @@
--- No `sid`; no `sn`; no `gt`; one of them malformed; all good.
-use mathlib.Core.Path.{sym, _∙_}
+-- `sn` or `gt` without the others; none; one of them malformed; all good.
 use borrow.Author.Needs.{needs}
 use borrow.Author.Tests.{not-true, not-false}
-use Rattle.tokens.specs.Tokens.{tokens}
-use Rattle.line_groups.proofs.Groups.{stream-none, stream-no-sn, stream-no-gt, stream-sn, stream-gt, stream-all}
+use Rattle.line_groups.proofs.Groups.{told-alike, stream-sn-alone, stream-gt-alone, stream-none, stream-sn, stream-gt, stream-all}
 use Rattle.line_groups.proofs.read_stream.Statement.{statement}
 use Rattle.line_groups.proofs.read_stream.Tie as tie
 
 returns : tie.Need-returns
 returns c =
-    let at-args = c .before .before .before .before .before .before .args in
-    let at-is-given = c .before .before .before .is-given in
-    let at-if1 = c .before .before .if1 in
-    let at-numbered = c .before .numbered in
-    stream-none (tokens (at-args .t .now)) (sym (at-is-given .ensures) ∙ not-true _ (at-if1 .taken)) (at-numbered .result) (at-numbered .ensures) (c .no-stream .result) (c .no-stream .ensures)
+    let at-args = c .before .before .before .before .args in
+    stream-sn-alone (at-args .has-sid) (at-args .has-sn) (at-args .sn .now) (at-args .has-gt) (at-args .gt .now) (c .before .if1 .taken) (c .no-stream .result) (c .no-stream .ensures)
 
 returns-2 : tie.Need-returns-2
 returns-2 c =
-    let at-args = c .before .before .before .before .before .before .before .before .args in
-    let at-is-given = c .before .before .before .before .before .is-given in
-    let at-if1 = c .before .before .before .before .if1 in
-    let at-is-given2 = c .before .before .is-given2 in
-    stream-no-sn (tokens (at-args .t .now)) (sym (at-is-given .ensures) ∙ not-false _ (at-if1 .left)) (sym (at-is-given2 .ensures) ∙ not-true _ (c .before .if2 .taken)) (c .no-stream2 .result) (c .no-stream2 .ensures)
+    let at-args = c .before .before .before .before .before .args in
+    let at-if1 = c .before .before .if1 in
+    stream-gt-alone (at-args .has-sid) (at-args .has-sn) (at-args .sn .now) (at-args .has-gt) (at-args .gt .now) (told-alike (at-args .has-sn) (at-args .has-sid) (at-if1 .left)) (c .before .if2 .taken) (c .no-stream2 .result) (c .no-stream2 .ensures)
 
 returns-3 : tie.Need-returns-3
 returns-3 c =
-    let at-args = c .before .before .before .before .before .before .before .before .before .before .before .args in
-    let at-is-given = c .before .before .before .before .before .before .before .before .is-given in
-    let at-if1 = c .before .before .before .before .before .before .before .if1 in
-    let at-is-given3 = c .before .before .is-given3 in
-    stream-no-gt (tokens (at-args .t .now)) (sym (at-is-given .ensures) ∙ not-false _ (at-if1 .left)) (sym (at-is-given3 .ensures) ∙ not-true _ (c .before .if3 .taken)) (c .no-stream3 .result) (c .no-stream3 .ensures)
+    let at-args = c .before .before .before .before .before .before .args in
+    let at-if1 = c .before .before .before .if1 in
+    let at-if2 = c .before .before .if2 in
+    stream-none (at-args .has-sid) (at-args .has-sn) (at-args .sn .now) (at-args .has-gt) (at-args .gt .now) (told-alike (at-args .has-sn) (at-args .has-sid) (at-if1 .left)) (told-alike (at-args .has-gt) (at-args .has-sid) (at-if2 .left)) (not-true _ (c .before .if3 .taken)) (c .no-stream3 .result) (c .no-stream3 .ensures)
 
 returns-4 : tie.Need-returns-4
 returns-4 c =
-    let at-args = c .before .before .before .before .before .before .before .before .before .before .before .before .before .before .before .before .args in
-    let at-is-given = c .before .before .before .before .before .before .before .before .before .before .before .before .before .is-given in
-    let at-if1 = c .before .before .before .before .before .before .before .before .before .before .before .before .if1 in
-    let at-is-given2 = c .before .before .before .before .before .before .before .before .before .before .is-given2 in
-    let at-if2 = c .before .before .before .before .before .before .before .before .before .if2 in
-    let at-is-given3 = c .before .before .before .before .before .before .before .is-given3 in
-    let at-if3 = c .before .before .before .before .before .before .if3 in
-    let at-value-of = c .before .before .before .before .value-of in
+    let at-args = c .before .before .before .before .before .before .before .before .before .args in
+    let at-if1 = c .before .before .before .before .before .before .if1 in
+    let at-if2 = c .before .before .before .before .before .if2 in
+    let at-if3 = c .before .before .before .before .if3 in
     let at-read-decimal = c .before .before .before .read-decimal in
-    stream-sn (tokens (at-args .t .now)) (sym (at-is-given .ensures) ∙ not-false _ (at-if1 .left)) (sym (at-is-given2 .ensures) ∙ not-false _ (at-if2 .left)) (sym (at-is-given3 .ensures) ∙ not-false _ (at-if3 .left)) (at-value-of .result .now) (at-value-of .ensures) (at-read-decimal .result) (at-read-decimal .ensures .0) (not-true _ (c .before .if4 .taken)) (c .no-stream4 .result) (c .no-stream4 .ensures)
+    stream-sn (at-args .has-sid) (at-args .has-sn) (at-args .sn .now) (at-args .has-gt) (at-args .gt .now) (told-alike (at-args .has-sn) (at-args .has-sid) (at-if1 .left)) (told-alike (at-args .has-gt) (at-args .has-sid) (at-if2 .left)) (not-false _ (at-if3 .left)) (at-read-decimal .result) (at-read-decimal .ensures .0) (not-true _ (c .before .if4 .taken)) (c .no-stream4 .result) (c .no-stream4 .ensures)
 
 returns-5 : tie.Need-returns-5
 returns-5 c =
-    let at-args = c .before .before .before .before .before .before .before .before .before .before .before .before .before .before .before .before .before .before .before .before .before .args in
-    let at-is-given = c .before .before .before .before .before .before .before .before .before .before .before .before .before .before .before .before .before .before .is-given in
-    let at-if1 = c .before .before .before .before .before .before .before .before .before .before .before .before .before .before .before .before .before .if1 in
-    let at-is-given2 = c .before .before .before .before .before .before .before .before .before .before .before .before .before .before .before .is-given2 in
-    let at-if2 = c .before .before .before .before .before .before .before .before .before .before .before .before .before .before .if2 in
-    let at-is-given3 = c .before .before .before .before .before .before .before .before .before .before .before .before .is-given3 in
-    let at-if3 = c .before .before .before .before .before .before .before .before .before .before .before .if3 in
-    let at-value-of = c .before .before .before .before .before .before .before .before .before .value-of in
-    let at-read-decimal = c .before .before .before .before .before .before .before .before .read-decimal in
-    let at-if4 = c .before .before .before .before .before .before .if4 in
-    let at-value-of2 = c .before .before .before .before .value-of2 in
+    let at-args = c .before .before .before .before .before .before .before .before .before .before .before .before .args in
+    let at-if1 = c .before .before .before .before .before .before .before .before .before .if1 in
+    let at-if2 = c .before .before .before .before .before .before .before .before .if2 in
+    let at-if3 = c .before .before .before .before .before .before .before .if3 in
+    let at-read-decimal = c .before .before .before .before .before .before .read-decimal in
+    let at-if4 = c .before .before .before .before .if4 in
     let at-read-decimal2 = c .before .before .before .read-decimal2 in
-    stream-gt (tokens (at-args .t .now)) (sym (at-is-given .ensures) ∙ not-false _ (at-if1 .left)) (sym (at-is-given2 .ensures) ∙ not-false _ (at-if2 .left)) (sym (at-is-given3 .ensures) ∙ not-false _ (at-if3 .left)) (at-value-of .result .now) (at-value-of .ensures) (at-read-decimal .result) (at-read-decimal .ensures .0) (not-false _ (at-if4 .left)) (at-value-of2 .result .now) (at-value-of2 .ensures) (at-read-decimal2 .result) (at-read-decimal2 .ensures .0) (not-true _ (c .before .if5 .taken)) (c .no-stream5 .result) (c .no-stream5 .ensures)
+    stream-gt (at-args .has-sid) (at-args .has-sn) (at-args .sn .now) (at-args .has-gt) (at-args .gt .now) (told-alike (at-args .has-sn) (at-args .has-sid) (at-if1 .left)) (told-alike (at-args .has-gt) (at-args .has-sid) (at-if2 .left)) (not-false _ (at-if3 .left)) (at-read-decimal .result) (at-read-decimal .ensures .0) (not-false _ (at-if4 .left)) (at-read-decimal2 .result) (at-read-decimal2 .ensures .0) (not-true _ (c .before .if5 .taken)) (c .no-stream5 .result) (c .no-stream5 .ensures)
 
 returns-6 : tie.Need-returns-6
 returns-6 c =
-    let at-args = c .before .before .before .before .before .before .before .before .before .before .before .before .before .before .before .before .before .before .before .before .before .before .args in
-    let at-is-given = c .before .before .before .before .before .before .before .before .before .before .before .before .before .before .before .before .before .before .before .is-given in
-    let at-if1 = c .before .before .before .before .before .before .before .before .before .before .before .before .before .before .before .before .before .before .if1 in
-    let at-is-given2 = c .before .before .before .before .before .before .before .before .before .before .before .before .before .before .before .before .is-given2 in
-    let at-if2 = c .before .before .before .before .before .before .before .before .before .before .before .before .before .before .before .if2 in
-    let at-is-given3 = c .before .before .before .before .before .before .before .before .before .before .before .before .before .is-given3 in
-    let at-if3 = c .before .before .before .before .before .before .before .before .before .before .before .before .if3 in
-    let at-value-of = c .before .before .before .before .before .before .before .before .before .before .value-of in
-    let at-read-decimal = c .before .before .before .before .before .before .before .before .before .read-decimal in
-    let at-if4 = c .before .before .before .before .before .before .before .if4 in
-    let at-value-of2 = c .before .before .before .before .before .value-of2 in
+    let at-args = c .before .before .before .before .before .before .before .before .before .before .before .before .before .args in
+    let at-if1 = c .before .before .before .before .before .before .before .before .before .before .if1 in
+    let at-if2 = c .before .before .before .before .before .before .before .before .before .if2 in
+    let at-if3 = c .before .before .before .before .before .before .before .before .if3 in
+    let at-read-decimal = c .before .before .before .before .before .before .before .read-decimal in
+    let at-if4 = c .before .before .before .before .before .if4 in
     let at-read-decimal2 = c .before .before .before .before .read-decimal2 in
     let at-if5 = c .before .before .if5 in
-    stream-all (tokens (at-args .t .now)) (sym (at-is-given .ensures) ∙ not-false _ (at-if1 .left)) (sym (at-is-given2 .ensures) ∙ not-false _ (at-if2 .left)) (sym (at-is-given3 .ensures) ∙ not-false _ (at-if3 .left)) (at-value-of .result .now) (at-value-of .ensures) (at-read-decimal .result) (at-read-decimal .ensures .0) (not-false _ (at-if4 .left)) (at-value-of2 .result .now) (at-value-of2 .ensures) (at-read-decimal2 .result) (at-read-decimal2 .ensures .0) (not-false _ (at-if5 .left))
+    stream-all (at-args .has-sid) (at-args .has-sn) (at-args .sn .now) (at-args .has-gt) (at-args .gt .now) (told-alike (at-args .has-sn) (at-args .has-sid) (at-if1 .left)) (told-alike (at-args .has-gt) (at-args .has-sid) (at-if2 .left)) (not-false _ (at-if3 .left)) (at-read-decimal .result) (at-read-decimal .ensures .0) (not-false _ (at-if4 .left)) (at-read-decimal2 .result) (at-read-decimal2 .ensures .0) (not-false _ (at-if5 .left))
 
 pub read-stream-spec : {M : Type 1} → statement M
 read-stream-spec =
     tie.close
     (tie.spec
-    (λ c. search needs)
-    (λ c κs. search needs)
-    (λ c κs. search needs)
     (λ c κs. search needs)
     returns
-    (λ c. search needs)
-    (λ c κs. search needs)
     (λ c κs. search needs)
     returns-2
-    (λ c. search needs)
-    (λ c κs. search needs)
     (λ c κs. search needs)
     returns-3
-    (λ c. search needs)
-    (λ c κs. search needs)
     (λ c κs. search needs)
     (λ c κs. search needs)
     returns-4
-    (λ c. search needs)
-    (λ c κs. search needs)
     (λ c κs. search needs)
     (λ c κs. search needs)
     returns-5

@@ -1,6 +1,5 @@
 -- The number, or that there is none.
 use borrow.Author.Needs.{needs}
-use Rattle.tokens.specs.Tokens.{given}
 use Rattle.line_values.proofs.Single.{decimal-read, decimal-most}
 use Rattle.line_values.proofs.read_decimal.Statement.{statement}
 use Rattle.line_values.proofs.read_decimal.Tie as tie

@@ -1,6 +1,5 @@
 -- The id, or that there is none.
 use borrow.Author.Needs.{needs}
-use Rattle.tokens.specs.Tokens.{given}
 use Rattle.line_values.proofs.Single.{master-read}
 use Rattle.line_values.proofs.read_master.Statement.{statement}
 use Rattle.line_values.proofs.read_master.Tie as tie

@@ -3,7 +3,6 @@ use mathlib.Core.Path.{sym, _∙_}
 use borrow.Author.Needs.{needs}
 use borrow.Author.Tests.{not-true, not-false}
 use Rattle.octets.proofs.Tests.{and-next, and-not-left, no-true, no-false}
-use Rattle.names.specs.Reserved.{reserved}
 use Rattle.names.specs.Texts.{headerKey}
 use Rattle.names.proofs.is_header_key.Statement.{statement}
 use Rattle.names.proofs.is_header_key.Tie as tie

@@ -8,14 +8,14 @@ use Rattle.tokens.proofs.after_byte.Tie as tie
 returns : tie.Need-returns
 returns c =
     let at-args = c .before .before .before .before .args in
-    let at-run = c .before .before .run in
-    part-none (at-args .c) (at-args .s .now) (at-run .result) (at-run .ensures .0) (c .before .if1 .taken)
+    let at-bytes-before = c .before .before .bytes-before in
+    part-none (at-args .c) (at-args .s .now) (at-bytes-before .result) (at-bytes-before .ensures .0) (c .before .if1 .taken)
 
 returns-2 : tie.Need-returns-2
 returns-2 c =
     let at-args = c .before .before .before .before .args in
-    let at-run = c .before .before .run in
-    part-after (at-args .c) (at-args .s .now) (at-run .result) (at-run .ensures .0)
+    let at-bytes-before = c .before .before .bytes-before in
+    part-after (at-args .c) (at-args .s .now) (at-bytes-before .result) (at-bytes-before .ensures .0)
 
 pub after-byte-spec : {M : Type 1} → statement M
 after-byte-spec =

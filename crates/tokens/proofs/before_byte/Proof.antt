@@ -8,8 +8,8 @@ use Rattle.tokens.proofs.before_byte.Tie as tie
 returns : tie.Need-returns
 returns c =
     let at-args = c .before .before .before .args in
-    let at-run = c .before .run in
-    part-before (at-args .c) (at-args .s .now) (at-run .result) (at-run .ensures .0)
+    let at-bytes-before = c .before .bytes-before in
+    part-before (at-args .c) (at-args .s .now) (at-bytes-before .result) (at-bytes-before .ensures .0)
 
 pub before-byte-spec : {M : Type 1} → statement M
 before-byte-spec =

@@ -9,7 +9,7 @@ use Rattle.tokens.proofs.has_byte.Tie as tie
 returns : tie.Need-returns
 returns c =
     let at-args = c .before .before .args in
-    sym (has-before (at-args .c) (at-args .s .now) ∙ rw (sym (c .run .ensures .0)))
+    sym (has-before (at-args .c) (at-args .s .now) ∙ rw (sym (c .bytes-before .ensures .0)))
 
 pub has-byte-spec : {M : Type 1} → statement M
 has-byte-spec = tie.close (tie.spec (λ c κs. search needs) returns)

@@ -7,7 +7,7 @@ use mir.ValLaws.{toZ-ofZ}
 use Rattle.phrases.specs.Replies.{replyText}
 use Rattle.talk.specs.Sessions.{termsOf}
 use Rattle.talk.specs.Talk.{offered}
-use Rattle.line.specs.declared.Reading.{Reading}
+use Rattle.line.specs.Reading.{Reading}
 use Rattle.talk.specs.Answer as what
 use Rattle.tokens.specs.Cuts.{before}
 use Rattle.talk.proofs.Turns.{says-by, entered-is, terms-by}

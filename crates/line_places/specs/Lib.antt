@@ -1,0 +1,4 @@
+-- Document 01, "The ihave line": the values and the headers of a line, each found in one pass.
+pub mod Headers
+pub mod Places
+pub mod Steps
