@@ -12,6 +12,7 @@ use Rattle.groupkeys.specs.declared.Key.{Key}
 use Rattle.groupkeys.specs.declared.Named.{Named}
 use Rattle.groups.specs.declared.Group.{Group}
 use Rattle.groups.specs.declared.Groups.{Groups}
+use Rattle.field_rules.specs.Rules.{idIn}
 use Rattle.groupkeys.specs.Key.{keepsKey, namedOf}
 use Rattle.groups.specs.Groups.{freeGroup, hasKey, complete, keepsPiece, keepsGroup, keepsGroups, twice, distinct, groupAt, withGroup, empty}
 use Rattle.groupcalls.specs.declared.Fragment.{Fragment}
@@ -27,7 +28,7 @@ unfolding keepsGroups
 set-keeps t g y k e d = and-both _ _ (eq-eqb _ _ (length-set (t .items) g y ∙ k .long)) (and-both _ _ (every-set keepsGroup (t .items) g y (k .each) e) d)
 
 pub empty-keeps : keepsGroups empty ≡ true
-unfolding keepsGroups keepsGroup keepsPiece keepsKey
+unfolding keepsGroups keepsGroup keepsPiece keepsKey idIn
 empty-keeps = refl
 
 pub add-keeps : (t : Groups) (size : ℕ) (has : Bool) (o : List ℕ) (master : ℕ) (f : Fragment) → keepsGroups t ≡ true → keepsGroups (add t size (namedOf has o master) f .after) ≡ true

@@ -14,6 +14,7 @@ use Rattle.groupkeys.specs.declared.Key.{Key}
 use Rattle.groupkeys.specs.declared.Named.{Named}
 use Rattle.groups.specs.declared.Piece.{Piece}
 use Rattle.groups.specs.declared.Group.{Group}
+use Rattle.field_rules.specs.Rules.{idIn}
 use Rattle.groupkeys.specs.Key.{sameKey, isOriginator, isMaster, lookedAt, keyOf, noKey, keepsKey, namedOf}
 use Rattle.groups.specs.Groups.{place, isHeld, freeGroup, hasKey, keepsPiece, keepsPieces, keepsGroup, twice, distinct, pastGroup}
 use Rattle.groupkeys.proofs.Names.{key-keeps}
@@ -174,7 +175,7 @@ unfolding hasKey
 used-key k x e = and-left (x .used) _ e
 
 pub free-keeps : keepsGroup freeGroup ≡ true
-unfolding keepsGroup keepsPiece keepsKey
+unfolding keepsGroup keepsPiece keepsKey idIn
 free-keeps = refl
 
 -- the key of the names that a call is given

@@ -1,6 +1,5 @@
 // Document 01, "Names and fields": the fields that a line and a datagram share, and one set of rules for them.
 // A message is its fields up to their lengths and flags: what lies past a length or behind a clear flag is no part of it.
-use headers::Header;
 use headers::Headers;
 pub use held_texts::header_text;
 pub use held_texts::with_header;
@@ -79,12 +78,7 @@ pub fn stream_text(s: &[u8]) -> StreamText
 pub fn blank() -> Envelope
     ensures { λ r. ⌜ r ≡ blankEnvelope ⌝ }
 {
-    let none = Header {
-        key: [0u8; 32],
-        key_len: 0,
-        value: [0u8; 128],
-        value_len: 0,
-    };
+    let headers = held_texts::no_headers();
     Envelope {
         id: 0,
         has_salt: false,
@@ -107,10 +101,7 @@ pub fn blank() -> Envelope
         },
         sn: 0,
         gt: 0,
-        headers: Headers {
-            items: [none; 8],
-            count: 0,
-        },
+        headers,
         dst: AddressText {
             len: 0,
             bytes: [0u8; 45],

@@ -1,6 +1,5 @@
 -- Document 01, "Numbers the node says no with": a name for each number of the table.
 use Prim.Native.Nat.{ℕ}
-use mathlib.Core.List.{List, [], _∷_}
 
 -- line malformed
 abbrev pub lineMalformed : ℕ
@@ -101,32 +100,3 @@ storeLength = 23
 -- state of any kind handed in breaks its section's rules
 abbrev pub stateBroken : ℕ
 stateBroken = 40
-
--- the table, in the paper's order
-abbrev pub table : List ℕ
-table =
-    lineMalformed
-    ∷ chkDiffers
-    ∷ formatD
-    ∷ payloadTooLong
-    ∷ bufferTooShort
-    ∷ notVersion7
-    ∷ datagramMalformed
-    ∷ noCallsign
-    ∷ streamIdMalformed
-    ∷ stale
-    ∷ alreadyHeld
-    ∷ rowFull
-    ∷ noFreeRow
-    ∷ noSuchStream
-    ∷ stillHolding
-    ∷ noSavedImage
-    ∷ fragmentMalformed
-    ∷ otherTotal
-    ∷ fragmentHeld
-    ∷ noFreeGroup
-    ∷ notComplete
-    ∷ sessionClosed
-    ∷ storeLength
-    ∷ stateBroken
-    ∷ []

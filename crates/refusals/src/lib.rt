@@ -1,6 +1,4 @@
 // Document 01, "Numbers the node says no with": the table, a name for each number.
-ghost use mathlib.Core.Path.{_≡_};
-ghost use Rattle.refusals.specs.Numbers.{table};
 
 // Line malformed.
 pub const LINE_MALFORMED: u8 = 1;
@@ -52,38 +50,3 @@ pub const SESSION_CLOSED: u8 = 22;
 pub const STORE_LENGTH: u8 = 23;
 // State of any kind handed in breaks its section's rules.
 pub const STATE_BROKEN: u8 = 40;
-
-// How many numbers the table has.
-pub const COUNT: usize = 24;
-
-// The table's numbers in its order.
-pub fn numbers() -> [u8; COUNT]
-    ensures { λ r. ⌜ r ≡ table ⌝ }
-{
-    [
-        LINE_MALFORMED,
-        CHK_DIFFERS,
-        FORMAT_D,
-        PAYLOAD_TOO_LONG,
-        BUFFER_TOO_SHORT,
-        NOT_VERSION_7,
-        DATAGRAM_MALFORMED,
-        NO_CALLSIGN,
-        STREAM_ID_MALFORMED,
-        STALE,
-        ALREADY_HELD,
-        ROW_FULL,
-        NO_FREE_ROW,
-        NO_SUCH_STREAM,
-        STILL_HOLDING,
-        NO_SAVED_IMAGE,
-        FRAGMENT_MALFORMED,
-        OTHER_TOTAL,
-        FRAGMENT_HELD,
-        NO_FREE_GROUP,
-        NOT_COMPLETE,
-        SESSION_CLOSED,
-        STORE_LENGTH,
-        STATE_BROKEN,
-    ]
-}
