@@ -1,5 +1,5 @@
 -- THEOREM: over any chain of adds, collects and sweeps from free groups, in which the host lends the same bytes unaltered, a collect that is not refused
--- gives exactly the bytes of the M fragments that were added under its key since the group newGroup, in the order of N, whatever the order of arrival.
+-- gives exactly the bytes of the M fragments that were added under its key since the group opened, in the order of N, whatever the order of arrival.
 use mathlib.Core.Path.{_≡_, refl, sym, ap, _∙_, subst}
 use Prim.Native.Nat.{ℕ, _-_, _≤_, _<_}
 use native.Mathlib.Omega.{arith}

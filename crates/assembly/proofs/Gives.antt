@@ -1,4 +1,4 @@
--- THEOREM: over any such chain, a collect of a key whose fragments 1 to M were all added since its group newGroup is not refused, if the store is whole,
+-- THEOREM: over any such chain, a collect of a key whose fragments 1 to M were all added since its group opened is not refused, if the store is whole,
 -- the names are good, and the buffer has room for the bytes.
 use mathlib.Core.Path.{_≡_, refl, sym, ap, _∙_}
 use Prim.Native.Nat.{ℕ, _≤_, _<_}

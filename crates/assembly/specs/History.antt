@@ -141,7 +141,7 @@ withCall k (adding a f) l = if sameKey (keyFor a) k then f ∷ l else l
 withCall k (collecting a out) l = if sameKey (keyFor a) k then [] else l
 withCall k (sweeping time) l = if stale time l then [] else l
 
--- the fragments added under the key since its group newGroup, the latest first
+-- the fragments added under the key since its group opened, the latest first
 abbrev pub since : Key → History → List Arrival
 since k start = []
 since k (h ▷ c ⇒ a) = if accepted a then withCall k c (since k h) else since k h

@@ -1,4 +1,4 @@
--- THEOREM: a call keeps the session's rules, if it is handed a session that keeps them.
+-- THEOREM: an opening's session keeps the rules, and a call keeps them, if it is handed a session that keeps them.
 use mathlib.Core.Path.{_≡_, refl, sym, ap, _∙_}
 use Prim.Native.Nat.{ℕ, zero, suc, _+_, _≤_, _<_}
 use native.Mathlib.Omega.{arith}
@@ -10,20 +10,20 @@ use borrow.Author.Tests.{lt-ltb, le-leb, eqb-true, eqb-false, ltb-true, ltb-fals
 use Rattle.octets.specs.Words.{if_then_else_, _and_, _or_, no, every, _<?_, _≤?_, _=?_}
 use Rattle.octets.proofs.Tests.{and-left, and-right, and-both, if-yes}
 use Rattle.octets.proofs.Lists.{drop-next}
-use Rattle.refusals.specs.Numbers.{lineMalformed, chkDiffers, formatD, payloadTooLong, longestPayload}
+use Rattle.refusals.specs.Numbers.{lineMalformed, chkDiffers, formatD, payloadTooLong, longestPayload, bufferTooShort}
 use Rattle.field_rules.specs.Rules.{idIn}
 use Rattle.envelope.specs.Rules.{envelope}
 use Rattle.envelope.specs.declared.Envelope.{Envelope}
 use Rattle.sha1.specs.declared.Sha1.{Sha1}
 use Rattle.sha1.specs.Machine.{fed, finished}
 use Rattle.sha1.specs.Id.{idNumber}
-use Rattle.line.specs.Reading.{Reading}
-use Rattle.line.specs.Reading.{restOf, isText, framed, valuesGood, wellFormed, chkRight, lineOf, refusalOf, answered, readOf}
+use Rattle.line.specs.Reading.{Reading, restOf, isText, framed, valuesGood, wellFormed, chkRight, lineOf, refusalOf, answered, readOf}
 use Rattle.line_groups.specs.Rules.{deflated}
 use Rattle.line_groups.specs.Answers.{lenOf}
 use Rattle.tokens.specs.Tokens.{tokens}
 use Rattle.phrases.specs.declared.Kind.{Kind}
 use Rattle.phrases.specs.Lines.{kindOf, isData}
+use Rattle.phrases.specs.Replies.{prompt}
 use Rattle.machine.specs.Machine.{Fed}
 use Rattle.machine.proofs.Cuts.{okFed, run-keeps}
 use Rattle.talk.specs.declared.Terms.{Terms}
@@ -33,7 +33,8 @@ use Rattle.talk.specs.Sessions.{termsOf, keepsTerms, salted, listening, promise
 use Rattle.talk.specs.Talk.{Turn, nothing, offered, completed, heardAs, heard, dataHeard}
 use Rattle.session.specs.Feed.{pushed, taken, obeyed, feedLine, feedPayload, feed}
 use Rattle.session.specs.Rules.{keepsLine, keepsPayload, keepsSession}
-use Rattle.session.specs.Calls.{longestReply, Outcome, stepOf}
+use Rattle.session.specs.Calls.{longestReply, Outcome, openOf, stepOf}
+use Rattle.session.specs.Answer as answer
 use Rattle.session.proofs.Tests.{longest, Kept, kept, keep, line-rest, payload-comes, payload-none, mode-low}
 
 -- ---- the modes as they are entered
@@ -45,6 +46,15 @@ listening-keeps = refl
 closed-keeps : keepsSession closed ≡ true
 unfolding keepsSession keepsLine keepsTerms keepsPayload idIn
 closed-keeps = refl
+
+-- the session of an opening keeps the rules, whatever was lent
+pub open-keeps : (room : ℕ) → keepsSession (openOf room .next) ≡ true
+unfolding openOf
+open-keeps room = go (room <? longestReply)
+  where
+    go : (b : Bool) → keepsSession (if_then_else_ {A = answer.Opening} b (record { answer = answer.refused bufferTooShort; written = 0; next = closed }) (record { answer = answer.made; written = length prompt; next = listening }) .next) ≡ true
+    go true = closed-keeps
+    go false = listening-keeps
 
 entered-line : (mode : ℕ) (t : Terms) (h : Sha1) → mode ≤ 2 → keepsLine (record { mode = mode; «line_len» = 0; line = listening .line; terms = t; got = 0; hash = h }) ≡ true
 unfolding keepsLine

@@ -1,4 +1,4 @@
--- Every add is one of three moves: a refusal, a fragment more in the group of its key, a group newGroup for an unknown key.
+-- Every add is one of three moves: a refusal, a fragment more in the group of its key, a group opened for an unknown key.
 -- The theorems of the calls are proved of the moves.
 use mathlib.Core.Path.{_≡_, refl, sym, ap, _∙_}
 use Prim.Native.Nat.{ℕ, suc, _+_, _-_, _≤_, _<_}

@@ -60,7 +60,7 @@ next (h ▷ accepts m time) = next h
 next (h ▷ gives way n slip time) = n + 1
 next (h ▷ gives-nothing time) = next h
 
--- the latest time told
+-- the largest time told
 abbrev pub timeOf : Event → ℕ
 timeOf (accepts m time) = time
 timeOf (gives way n slip time) = time
@@ -108,7 +108,7 @@ GivesNone (accepts m time) = Unit {0}
 GivesNone (gives way n slip time) = ⊥
 GivesNone (gives-nothing time) = Unit {0}
 
--- the gap is open, and has stood open ever since a moment at which the latest time told was `since`, nothing being given out meanwhile;
+-- the gap is open, and has stood open ever since a moment at which the largest time told was `since`, nothing being given out meanwhile;
 -- where an image brought the row with its gap open, since that row's gap start
 abbrev pub OpenSince : ℕ → History → Type 0
 OpenSince since opened = ⊥
