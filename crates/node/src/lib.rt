@@ -54,14 +54,14 @@ pub use image::Saved;
 pub use image::load;
 pub use image::save;
 pub use keys::Key as StreamKey;
+pub use places::Held;
 pub use rows::Accepting;
 pub use rows::Giving;
-pub use places::Held;
 pub use rows::Row;
+pub use slots::Slot;
 pub use streams::Count;
 pub use streams::Served as TableServed;
 pub use streams::Shown;
-pub use slots::Slot;
 pub use streams::Table;
 pub use streams::Taken as TableTaken;
 
