@@ -5,7 +5,7 @@ use node::Session;
 use node::Table;
 
 // The sizes of the payload buffer and of the reply buffer.
-pub(crate) const PAYLOAD: usize = 4096;
+pub(crate) const PAYLOAD: usize = node::LONGEST_PAYLOAD;
 
 pub(crate) const REPLY: usize = 64;
 

@@ -1,4 +1,3 @@
 -- What the reader's tests come to, and what every public contract must show.
-pub mod Fields
 pub mod Whole
 pub mod Unique

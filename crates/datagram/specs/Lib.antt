@@ -1,3 +1,2 @@
 -- Document 01, "The datagram": what the reader answers.
-pub mod Found
 pub mod Answer

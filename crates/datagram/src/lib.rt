@@ -4,8 +4,6 @@ use octets::Read32;
 ghost use mathlib.Core.Path.{_≡_};
 ghost use Rattle.datagram.specs.Answer.{says, readOf, partOf, refused};
 
-mod groups;
-
 // Read, or refused with the number of the paper's table.
 pub enum DatagramReading {
     Read,
@@ -43,7 +41,7 @@ pub fn read_datagram(d: &[u8]) -> DatagramAnswer
         return refuse(refusals::NOT_VERSION_7);
     }
     let d1 = &d[1..];
-    let m = groups::read_message(d1);
+    let m = datagram_fields::read_message(d1);
     if !m.ok {
         return refuse(refusals::DATAGRAM_MALFORMED);
     }

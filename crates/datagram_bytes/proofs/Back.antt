@@ -17,7 +17,7 @@ use Rattle.layout.specs.Tidy.{tidyDatagram}
 use Rattle.layout.specs.Layout.{layout, message}
 use Rattle.layout.proofs.Valid.{message-laws}
 use Rattle.datagram.specs.Answer.{accepted, afterLength, afterFields, readOf}
-use Rattle.datagram_bytes.specs.Bytes.{bytesOf, placeOf, Typed}
+use Rattle.datagram_bytes.specs.Bytes.{bytesOf, payloadPlace, Typed}
 use Rattle.datagram_bytes.proofs.Good.{layout-good, message-good}
 use Rattle.datagram_bytes.proofs.Tidied.{message-tidy}
 
@@ -26,7 +26,7 @@ read-by : (d : List ℕ) (m : Datagram) (u n : ℕ) → num 4 .parse (drop (1 + 
 read-by d m u n e h k = ap (afterLength d m (1 + u)) e ∙ if-no _ _ _ (le-ltb 4096 n h) ∙ if-yes _ _ _ (eq-eqb (1 + u + 4 + n) (length d) k)
 
 read-tidy : (m : Datagram) (payload : List ℕ) → Typed m → valid m ≡ true → length payload ≤ 4096
-    → readOf (bytesOf m payload) ≡ accepted (message .tidy m) (placeOf m) (length payload)
+    → readOf (bytesOf m payload) ≡ accepted (message .tidy m) (payloadPlace m) (length payload)
 unfolding bytesOf readOf message
 read-tidy m payload t e h =
     let w = layout .print m in
@@ -42,5 +42,5 @@ read-tidy m payload t e h =
     ∙ read-by (7 ∷ (w ++ (n ++ payload))) (message .tidy m) (length w) (length payload) size h long
 
 pub read-back : (m : Datagram) (payload : List ℕ) → Typed m → valid m ≡ true → length payload ≤ 4096
-    → readOf (bytesOf m payload) ≡ accepted (tidyDatagram m) (placeOf m) (length payload)
-read-back m payload t e h = read-tidy m payload t e h ∙ ap (λ (x : Datagram). accepted x (placeOf m) (length payload)) (message-tidy m t (layout-good m t e))
+    → readOf (bytesOf m payload) ≡ accepted (tidyDatagram m) (payloadPlace m) (length payload)
+read-back m payload t e h = read-tidy m payload t e h ∙ ap (λ (x : Datagram). accepted x (payloadPlace m) (length payload)) (message-tidy m t (layout-good m t e))

@@ -13,8 +13,8 @@ unfoldable pub bytesOf : Datagram → List ℕ → List ℕ
 bytesOf m payload = 7 ∷ (layout .print m ++ (num 4 .print (length payload) ++ payload))
 
 -- where the payload begins
-abbrev pub placeOf : Datagram → ℕ
-placeOf m = 1 + length (layout .print m) + 4
+abbrev pub payloadPlace : Datagram → ℕ
+payloadPlace m = 1 + length (layout .print m) + 4
 
 -- a value of the Rust type: each number in its type's range, and the arrays as long as they are
 pub record Typed (m : Datagram) : Type 0 where

@@ -19,7 +19,7 @@ pub record Left (w : List ℕ) (at : ℕ) (l : List ℕ) (all : List ℕ) (from 
   pub room : at + length w ≤ length l
 
 pub left-all : {w : List ℕ} {at : ℕ} {l : List ℕ} → Room w at l → Left w at l w at l
-left-all h = record { place = refl; bytes = refl; same = refl; room = h .fits }
+left-all h = record { place = refl; bytes = refl; same = refl; room = h .room }
 
 left-next : {a : List ℕ} {at next from : ℕ} {l x all start : List ℕ} (b : List ℕ) → Left (a ++ b) at l all from start → Put a at l next x → Left b next x all from start
 left-next {a} {at} {next} {from} {l} {x} {all} {start} b h p =
@@ -43,7 +43,7 @@ module _ {A : Type 0} (F : Field A) (l : List A) (n : ℕ) (d : A) (k : n ≤ le
 
   pub value-room : (i : ℕ) {from : ℕ} {all start : List ℕ} {at : ℕ} {buffer : List ℕ} → i < n → Left (manyPrint F (drop i (take n l))) at buffer all from start → Room (F .print (getD l i d)) at buffer
   value-room i {from} {all} {start} {at} {buffer} h g =
-      record { fits = omega (arith, g .room, ap length (next-value i h), length-append (F .print (getD l i d)) (manyPrint F (drop (i + 1) (take n l)))) }
+      record { room = omega (arith, g .room, ap length (next-value i h), length-append (F .print (getD l i d)) (manyPrint F (drop (i + 1) (take n l)))) }
 
   pub value-put : (i : ℕ) {from : ℕ} {all start : List ℕ} {at next : ℕ} {buffer x : List ℕ} → i < n → Left (manyPrint F (drop i (take n l))) at buffer all from start → Put (F .print (getD l i d)) at buffer next x
       → Left (manyPrint F (drop (i + 1) (take n l))) next x all from start

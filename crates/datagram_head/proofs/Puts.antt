@@ -19,17 +19,17 @@ put-by {w} {at} e b = record { place = ap (λ (k : ℕ). at + k) e; bytes = b }
 
 -- where both have room, the first has
 pub first-room : (a b : List ℕ) {at : ℕ} {l : List ℕ} → Room (a ++ b) at l → Room a at l
-first-room a b {at} {l} h = record { fits = omega (arith, length-append a b, h .fits) }
+first-room a b {at} {l} h = record { room = omega (arith, length-append a b, h .room) }
 
 -- and behind it the second
 pub next-room : {a : List ℕ} (b : List ℕ) {at next : ℕ} {l x : List ℕ} → Put a at l next x → Room (a ++ b) at l → Room b next x
-next-room {a} b {at} {next} {l} {x} p h = record { fits = omega (arith, length-append a b, h .fits, p .place, ap length (p .bytes), length-placed a at l) }
+next-room {a} b {at} {next} {l} {x} p h = record { room = omega (arith, length-append a b, h .room, p .place, ap length (p .bytes), length-placed a at l) }
 
 -- one behind the other, they are one
 pub both : {a b : List ℕ} {at next end : ℕ} {l x y : List ℕ} → Room (a ++ b) at l → Put a at l next x → Put b next x end y → Put (a ++ b) at l end y
 both {a} {b} {at} {next} {end} {l} {x} {y} h p q = record {
   place = omega (arith, length-append a b, p .place, q .place);
-  bytes = q .bytes ∙ rw (p .bytes, p .place) (placed-append a b at l (omega (arith, length-append a b, h .fits)));
+  bytes = q .bytes ∙ rw (p .bytes, p .place) (placed-append a b at l (omega (arith, length-append a b, h .room)));
 }
 
 -- ---- another way to say the same bytes
@@ -52,7 +52,7 @@ module _ {A : Type 0} (b : Bool) (blank : A) (F : Field A) (a : A) where
   pub absent : {at : ℕ} {l : List ℕ} → b ≡ false → Room (when b blank F .print a) at l → Put (when b blank F .print a) at l at l
   absent {at} {l} e h =
       let n : when b blank F .print a ≡ [] = rw e in
-      let k : at ≤ length l = omega (arith, h .fits) in
+      let k : at ≤ length l = omega (arith, h .room) in
       rw n (record { place = omega arith; bytes = sym (placed-none at l k) })
 
 -- the weight of a bit

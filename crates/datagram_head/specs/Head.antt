@@ -8,9 +8,9 @@ use Rattle.layout.specs.Rules.{valid}
 use Rattle.layout.specs.Layout.{layout}
 
 -- the bytes before the payload: version, fields, payload length
-unfoldable pub headOf : Datagram → ℕ → List ℕ
-headOf m len = 7 ∷ (layout .print m ++ num 4 .print len)
+unfoldable pub headBytes : Datagram → ℕ → List ℕ
+headBytes m len = 7 ∷ (layout .print m ++ num 4 .print len)
 
 -- what is written of a message: the head of a valid one
-unfoldable pub written : Datagram → ℕ → List ℕ
-written m len = if valid m then headOf m len else []
+unfoldable pub validHead : Datagram → ℕ → List ℕ
+validHead m len = if valid m then headBytes m len else []

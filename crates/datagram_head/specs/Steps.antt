@@ -8,7 +8,7 @@ use Rattle.octets.specs.Field.{num}
 
 -- the buffer has room for w from the place `at` on
 pub record Room (w : List ℕ) (at : ℕ) (buffer : List ℕ) : Type 0 where
-  pub fits : at + length w ≤ length buffer
+  pub room : at + length w ≤ length buffer
 
 -- w was put at the place `at`, and `next` is the place behind it
 pub record Put (w : List ℕ) (at : ℕ) (before : List ℕ) (next : ℕ) (after : List ℕ) : Type 0 where

@@ -7,7 +7,6 @@ use layout::Hops;
 use octets::Read8;
 ghost use mathlib.Core.Path.{_≡_};
 ghost use Prim.Native.Nat.{_+_, _≤_, _<_};
-ghost use Rattle.octets.specs.Words.{_and_};
 ghost use Rattle.layout.specs.Layout.{call, hopsIf, way};
 ghost use Rattle.datagram_numbers.specs.Found.{finding};
 ghost use Rattle.datagram_lists.specs.Found.{listFrom, withHop};
@@ -16,15 +15,6 @@ struct HopsFound {
     ok: bool,
     used: usize,
     hops: Hops,
-}
-
-fn both(a: bool, b: bool) -> bool
-    ensures { λ r. ⌜ r ≡ a and b ⌝ }
-{
-    if a {
-        return b;
-    }
-    false
 }
 
 // One hop more behind the others.
@@ -120,7 +110,7 @@ pub(crate) fn read_three(d: &[u8], flags: Flags) -> WayFound
     let n2 = b.used;
     let d2 = &d1[n2..];
     let c = read_route(d2, flags.hops);
-    let ok = both(a.ok, both(b.ok, c.ok));
+    let ok = datagram_numbers::both(a.ok, datagram_numbers::both(b.ok, c.ok));
     let route = b.hops;
     let hops = c.hops;
     WayFound {

@@ -5,6 +5,7 @@ use layout::Flags;
 use octets::Read8;
 use octets::Read32;
 ghost use mathlib.Core.Path.{_≡_};
+ghost use Rattle.octets.specs.Words.{_and_};
 ghost use Rattle.octets.specs.Field.{bad, num};
 ghost use Rattle.layout.specs.Layout.{floodIf, fragmentIf, opening};
 ghost use Rattle.datagram_numbers.specs.Found.{found8, found32, openingFound, fragmentFound};
@@ -40,6 +41,16 @@ pub struct FragmentFound {
     pub mid: u32,
     pub index: u16,
     pub total: u16,
+}
+
+// Whether two fields are both there.
+pub fn both(a: bool, b: bool) -> bool
+    ensures { λ r. ⌜ r ≡ a and b ⌝ }
+{
+    if a {
+        return b;
+    }
+    false
 }
 
 // A number in four bytes.

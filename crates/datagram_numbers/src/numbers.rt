@@ -9,7 +9,7 @@ use octets::ReadSigned;
 use text::Id;
 ghost use mathlib.Core.Path.{_≡_};
 ghost use Prim.Native.Nat.{_<_, _/_, _%_};
-ghost use Rattle.octets.specs.Words.{_and_, _=?_};
+ghost use Rattle.octets.specs.Words.{_=?_};
 ghost use Rattle.octets.specs.Field.{num};
 ghost use Rattle.layout.specs.Layout.{flags, flagsOf, hexId, saltIf, ttlIf, fragment, opening};
 ghost use Rattle.datagram_numbers.specs.Found.{finding};
@@ -30,15 +30,6 @@ struct FlagsFound {
     ok: bool,
     used: usize,
     flags: Flags,
-}
-
-fn both(a: bool, b: bool) -> bool
-    ensures { λ r. ⌜ r ≡ a and b ⌝ }
-{
-    if a {
-        return b;
-    }
-    false
 }
 
 // Whether the bit of this weight is set.
@@ -90,7 +81,7 @@ fn read_flags(d: &[u8]) -> FlagsFound
 {
     let n = number16(d);
     let flags = flags_of(n.value);
-    let ok = both(n.ok, n.value < 1024);
+    let ok = crate::both(n.ok, n.value < 1024);
     FlagsFound {
         ok,
         used: n.used,
@@ -177,7 +168,7 @@ pub(crate) fn read_four(d: &[u8]) -> OpeningFound
     let n3 = c.used;
     let d3 = &d2[n3..];
     let e = read_ttl(d3, flags.ttl);
-    let ok = both(a.ok, both(b.ok, both(c.ok, e.ok)));
+    let ok = crate::both(a.ok, crate::both(b.ok, crate::both(c.ok, e.ok)));
     OpeningFound {
         ok,
         used: n1 + (n2 + (n3 + e.used)),
@@ -199,7 +190,7 @@ pub(crate) fn read_three(d: &[u8]) -> FragmentFound
     let n2 = b.used;
     let d2 = &d1[n2..];
     let c = number16(d2);
-    let ok = both(a.ok, both(b.ok, c.ok));
+    let ok = crate::both(a.ok, crate::both(b.ok, c.ok));
     FragmentFound {
         ok,
         used: n1 + (n2 + c.used),

@@ -25,7 +25,7 @@ pub(crate) fn read_three(d: &[u8], flags: Flags) -> EndsFound
     let n2 = b.used;
     let d2 = &d1[n2..];
     let c = texts::read_call(d2, flags.link);
-    let ok = texts::both(a.ok, texts::both(b.ok, c.ok));
+    let ok = datagram_numbers::both(a.ok, datagram_numbers::both(b.ok, c.ok));
     let dst = a.text;
     let src = b.text;
     let link = c.text;
@@ -49,7 +49,7 @@ pub(crate) fn read_named(d: &[u8]) -> StreamFound
     let n2 = b.used;
     let d2 = &d1[n2..];
     let c = datagram_numbers::number32(d2);
-    let ok = texts::both(a.ok, texts::both(b.ok, c.ok));
+    let ok = datagram_numbers::both(a.ok, datagram_numbers::both(b.ok, c.ok));
     let sid = a.text;
     StreamFound {
         ok,

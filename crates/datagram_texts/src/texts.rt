@@ -9,7 +9,6 @@ use octets::Read16;
 ghost use mathlib.Core.Path.{_≡_};
 ghost use Prim.Native.Nat.{_≤_};
 ghost use lib.ListN.{length};
-ghost use Rattle.octets.specs.Words.{_and_};
 ghost use Rattle.layout.specs.Layout.{text, callIf, address, streamName, header};
 ghost use Rattle.datagram_numbers.specs.Found.{finding};
 ghost use Rattle.datagram_texts.specs.Found.{spans, textBehind};
@@ -37,15 +36,6 @@ pub(crate) struct NameFound {
     pub ok: bool,
     pub used: usize,
     pub text: StreamText,
-}
-
-pub(crate) fn both(a: bool, b: bool) -> bool
-    ensures { λ r. ⌜ r ≡ a and b ⌝ }
-{
-    if a {
-        return b;
-    }
-    false
 }
 
 // The v bytes that follow the first k, which said their number; no more than `most`.
@@ -171,7 +161,7 @@ pub(crate) fn read_pair(d: &[u8]) -> HeaderFound
     let e = t.from;
     let f = t.to;
     let header = envelope::header_text(&d[a..b], &d1[e..f]);
-    let ok = both(s.ok, t.ok);
+    let ok = datagram_numbers::both(s.ok, t.ok);
     HeaderFound {
         ok,
         used: b + f,

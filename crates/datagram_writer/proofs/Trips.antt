@@ -14,20 +14,20 @@ use Rattle.layout.specs.declared.Datagram.{Datagram}
 use Rattle.layout.specs.Rules.{valid}
 use Rattle.layout.specs.Tidy.{tidyDatagram}
 use Rattle.datagram.specs.Answer.{accepted, readOf, partOf}
-use Rattle.datagram_bytes.specs.Bytes.{bytesOf, placeOf, Typed}
+use Rattle.datagram_bytes.specs.Bytes.{bytesOf, payloadPlace, Typed}
 use Rattle.datagram_bytes.proofs.Back.{read-back}
 use Rattle.datagram_bytes.proofs.Again.{whole, accepted-valid, same-bytes}
 use Rattle.datagram_writer.specs.Answer.{writeOf, writeLeft}
 use Rattle.datagram_writer.specs.Answer as answer
-use Rattle.datagram_head.specs.Head.{headOf}
+use Rattle.datagram_head.specs.Head.{headBytes}
 use Rattle.datagram_head.proofs.Whole.{head-length}
 use Rattle.datagram_writer.proofs.Whole.{head-payload, room-enough, left-written}
 
 -- the payload's place in the bytes of a message
-payload-part : (m : Datagram) (p : List ℕ) → partOf (bytesOf m p) (placeOf m) (length p) ≡ p
+payload-part : (m : Datagram) (p : List ℕ) → partOf (bytesOf m p) (payloadPlace m) (length p) ≡ p
 unfolding partOf
 payload-part m p =
-    let w = headOf m (length p) in
+    let w = headBytes m (length p) in
     let n = head-length m (length p) in
     rw (← head-payload m p, ← n)
     (if-yes _ _ _ (le-leb (length w + length p) (length (w ++ p)) (omega (arith, length-append w p))) ∙ ap (take (length p)) (drop-append-seam w p) ∙ take-all (length p) p (omega arith))
@@ -41,12 +41,12 @@ module _ (m : Datagram) (payload buffer : List ℕ) (t : Typed m) (v : valid m �
   bytes-written = ap (take (length (bytesOf m payload))) (left-written m payload buffer v h k) ∙ take-append-seam (bytesOf m payload) _
 
   -- what was written is read back as the same message
-  pub written-read : readOf (take (length (bytesOf m payload)) (writeLeft m payload buffer)) ≡ accepted (tidyDatagram m) (placeOf m) (length payload)
+  pub written-read : readOf (take (length (bytesOf m payload)) (writeLeft m payload buffer)) ≡ accepted (tidyDatagram m) (payloadPlace m) (length payload)
   written-read = ap readOf bytes-written ∙ read-back m payload t v h
 
   -- and the payload stands where the answer says
-  pub payload-read : partOf (take (length (bytesOf m payload)) (writeLeft m payload buffer)) (placeOf m) (length payload) ≡ payload
-  payload-read = ap (λ (d : List ℕ). partOf d (placeOf m) (length payload)) bytes-written ∙ payload-part m payload
+  pub payload-read : partOf (take (length (bytesOf m payload)) (writeLeft m payload buffer)) (payloadPlace m) (length payload) ≡ payload
+  payload-read = ap (λ (d : List ℕ). partOf d (payloadPlace m) (length payload)) bytes-written ∙ payload-part m payload
 
 module _ (d : List ℕ) (m : Datagram) (at n : ℕ) (buffer : List ℕ) (hd : Bytes d) (e : readOf d ≡ accepted m at n) (k : length d ≤ length buffer) where
   part-read : partOf d at n ≡ take n (drop at d)

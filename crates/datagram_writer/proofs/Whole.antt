@@ -15,13 +15,13 @@ use Rattle.layout.specs.declared.Datagram.{Datagram}
 use Rattle.layout.specs.Rules.{valid}
 use Rattle.layout.specs.Layout.{layout}
 use Rattle.datagram_bytes.specs.Bytes.{bytesOf}
-use Rattle.datagram_head.specs.Head.{headOf}
+use Rattle.datagram_head.specs.Head.{headBytes}
 use Rattle.datagram_head.specs.Head as head
 use Rattle.datagram_writer.specs.Answer.{Verdict, written, refusedWith, writeOf, writeLeft}
 
 -- the payload behind the head
-pub head-payload : (m : Datagram) (p : List ℕ) → headOf m (length p) ++ p ≡ bytesOf m p
-unfolding headOf bytesOf
+pub head-payload : (m : Datagram) (p : List ℕ) → headBytes m (length p) ++ p ≡ bytesOf m p
+unfolding headBytes bytesOf
 head-payload m p = ap (λ (l : List ℕ). 7 ∷ l) (append-assoc (layout .print m) (num 4 .print (length p)) p)
 
 at-front : (w l : List ℕ) → length w ≤ length l → placed w 0 l ≡ front w l
@@ -62,47 +62,47 @@ pub head-room : (w a b : List ℕ) (n : ℕ) → n ≡ length w → b ≡ front 
 head-room w a b n e f = rw f (omega (arith, e, length-append w (drop (length w) a)))
 
 -- a message without a head is not valid; one with a head is, and this is its head
-pub no-head : (m : Datagram) (len n : ℕ) → n ≡ length (head.written m len) → n ≡ 0 → valid m ≡ false
-unfolding head.written headOf
+pub no-head : (m : Datagram) (len n : ℕ) → n ≡ length (head.validHead m len) → n ≡ 0 → valid m ≡ false
+unfolding head.validHead headBytes
 no-head m len n e f = go (valid m) refl
   where
     go : (b : Bool) → valid m ≡ b → valid m ≡ false
     go false v = v
     go true v =
-        let z : head.written m len ≡ headOf m len = if-yes _ _ _ v in
+        let z : head.validHead m len ≡ headBytes m len = if-yes _ _ _ v in
         absurd (omega (arith, ap length z))
 
-pub some-head : (m : Datagram) (len n : ℕ) → n ≡ length (head.written m len) → (n ≡ 0 → ⊥) → valid m ≡ true
-unfolding head.written
+pub some-head : (m : Datagram) (len n : ℕ) → n ≡ length (head.validHead m len) → (n ≡ 0 → ⊥) → valid m ≡ true
+unfolding head.validHead
 some-head m len n e f = go (valid m) refl
   where
     go : (b : Bool) → valid m ≡ b → valid m ≡ true
     go true v = v
     go false v =
-        let z : head.written m len ≡ [] = if-no _ _ _ v in
+        let z : head.validHead m len ≡ [] = if-no _ _ _ v in
         absurd (f (omega (arith, ap length z)))
 
-module _ (m : Datagram) (p : List ℕ) (n : ℕ) (v : valid m ≡ true) (e : n ≡ length (head.written m (length p))) where
-  is-head : head.written m (length p) ≡ headOf m (length p)
-  unfolding head.written
+module _ (m : Datagram) (p : List ℕ) (n : ℕ) (v : valid m ≡ true) (e : n ≡ length (head.validHead m (length p))) where
+  is-head : head.validHead m (length p) ≡ headBytes m (length p)
+  unfolding head.validHead
   is-head = if-yes _ _ _ v
 
   -- the length of the whole, as the code counts it
   pub whole-length : length (bytesOf m p) ≡ n + length p
-  whole-length = sym (ap length (head-payload m p)) ∙ omega (arith, length-append (headOf m (length p)) p, ap length is-head)
+  whole-length = sym (ap length (head-payload m p)) ∙ omega (arith, length-append (headBytes m (length p)) p, ap length is-head)
 
   -- what the code lends of the head's array
-  pub head-part : (a b : List ℕ) → b ≡ front (head.written m (length p)) a → take (n - 0) (drop 0 b) ≡ headOf m (length p)
+  pub head-part : (a b : List ℕ) → b ≡ front (head.validHead m (length p)) a → take (n - 0) (drop 0 b) ≡ headBytes m (length p)
   head-part a b f =
-      let z : n - 0 ≡ length (head.written m (length p)) = omega (arith, e) in
-      rw (z, f) (take-append-seam (head.written m (length p)) _) ∙ is-head
+      let z : n - 0 ≡ length (head.validHead m (length p)) = omega (arith, e) in
+      rw (z, f) (take-append-seam (head.validHead m (length p)) _) ∙ is-head
 
   -- the head at the front, and the payload behind it
-  pub all-written : (l : List ℕ) {c x y : List ℕ} → length p ≤ 4096 → n + length p ≤ length l → c ≡ headOf m (length p) → x ≡ placed c 0 l → y ≡ placed p n x
+  pub all-written : (l : List ℕ) {c x y : List ℕ} → length p ≤ 4096 → n + length p ≤ length l → c ≡ headBytes m (length p) → x ≡ placed c 0 l → y ≡ placed p n x
       → (written (n + length p) ≡ writeOf m p (length l)) × (y ≡ writeLeft m p l)
   all-written l {c} {x} {y} h k q f g =
       let s = whole-length in
-      let w = headOf m (length p) in
+      let w = headBytes m (length p) in
       let z : n ≡ 0 + length w = omega (arith, e, ap length is-head) in
       let room : length (bytesOf m p) ≤ length l = omega (arith, s) in
       let sum : 0 + (length w + length p) ≤ length l = omega (arith, z) in

@@ -23,7 +23,7 @@ use Rattle.line_groups.specs.Answers.{lenOf}
 use Rattle.tokens.specs.Tokens.{tokens}
 use Rattle.phrases.specs.declared.Kind.{Kind}
 use Rattle.phrases.specs.Lines.{kindOf, isData}
-use Rattle.phrases.specs.Replies.{prompt}
+use Rattle.replies.specs.Replies.{prompt}
 use Rattle.machine.specs.Machine.{Fed}
 use Rattle.machine.proofs.Cuts.{okFed, run-keeps}
 use Rattle.talk.specs.declared.Terms.{Terms}
@@ -32,10 +32,10 @@ use Rattle.talk.specs.Answer.{Happening}
 use Rattle.talk.specs.Sessions.{termsOf, keepsTerms, salted, listening, promised, receiving, closed, lineSoFar}
 use Rattle.talk.specs.Talk.{Turn, nothing, offered, completed, heardAs, heard, dataHeard}
 use Rattle.session.specs.Feed.{pushed, taken, obeyed, feedLine, feedPayload, feed}
-use Rattle.session.specs.Rules.{keepsLine, keepsPayload, keepsSession}
-use Rattle.session.specs.Calls.{longestReply, Outcome, openOf, stepOf}
+use Rattle.session_rules.specs.Rules.{keepsLine, keepsPayload, keepsSession, longestReply}
+use Rattle.session.specs.Calls.{Outcome, openOf, stepOf}
 use Rattle.session.specs.Answer as answer
-use Rattle.session.proofs.Tests.{longest, Kept, kept, keep, line-rest, payload-comes, payload-none, mode-low}
+use Rattle.session_rules.proofs.Tests.{longest, Kept, kept, keep, line-rest, payload-comes, payload-none, mode-low}
 
 -- ---- the modes as they are entered
 
@@ -194,9 +194,9 @@ feed-ok s b o =
 -- ---- THE THEOREM
 
 abbrev Keeping : Outcome → Type 0
-Keeping o = keepsSession (o .told .next) ≡ true
+Keeping o = keepsSession (o .answered .next) ≡ true
 
-pub step-keeps : (s : Session) (piece pl : List ℕ) (room : ℕ) → keepsSession s ≡ true → keepsSession (stepOf s piece pl room .told .next) ≡ true
+pub step-keeps : (s : Session) (piece pl : List ℕ) (room : ℕ) → keepsSession s ≡ true → keepsSession (stepOf s piece pl room .answered .next) ≡ true
 unfolding stepOf
 step-keeps s piece pl room e =
     on Keeping (no (keepsSession s)) _ _ (λ a. e)

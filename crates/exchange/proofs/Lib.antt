@@ -3,3 +3,4 @@ pub mod Keeps
 pub mod Cuts
 pub mod Messages
 pub mod WholeCase
+pub mod Witness

@@ -38,11 +38,12 @@ use Rattle.talk.specs.Answer as what
 use Rattle.talk.specs.Sessions.{keepsTerms, salted, lineSoFar, listening}
 use Rattle.talk.specs.Talk.{Turn, nothing, message, offered, completed, heardAs, heard, dataHeard}
 use Rattle.session.specs.Feed.{obeyed, feed}
-use Rattle.session.specs.Rules.{keepsSession}
-use Rattle.session.specs.Calls.{longestReply, Outcome, refused, made, stored, went, stepOf}
+use Rattle.session_rules.specs.Rules.{keepsSession, longestReply}
+use Rattle.session.specs.Answer as answer
+use Rattle.session.specs.Calls.{Outcome, refused, made, stored, went, stepOf}
 use Rattle.session.proofs.Runs.{received, run-payload, run-whole}
-use Rattle.session.proofs.Tests.{Kept, kept, terms-bound, payload-bound, mode-low, long-enough}
-use Rattle.exchange.specs.Host.{Lent, call, Held, atFirst, after, afterAll}
+use Rattle.session_rules.proofs.Tests.{Kept, kept, terms-bound, payload-bound, mode-low, long-enough}
+use Rattle.exchange.specs.Host.{Lent, call, Between, atFirst, afterAs, after, afterAll}
 use Rattle.exchange.proofs.Keeps.{on, listening-keeps, step-keeps}
 
 -- ---- what a line leads to: a payload begins with nothing but its salt in the digest, and a message at a line has no bytes
@@ -151,7 +152,7 @@ place pl r bs n i e h l f = ap (λ (w : List ℕ). getD w i 0) (placed-in bs n p
 
 -- ---- what holds between two calls
 
-pub record Sound (h : Held) : Type 0 where
+pub record Sound (h : Between) : Type 0 where
   pub keeps : keepsSession (h .session) ≡ true
   -- while a payload comes, the bytes received are counted and in the digest, after the salt
   pub digest : h .session .mode ≡ 2 → (length (h .received) ≡ h .session .got) × (h .session .hash ≡ fedAll (salted (h .session .terms)) (h .received))
@@ -174,18 +175,18 @@ id-few salt r n len e q = go (longestPayload <? length r) refl q
     go true f z = let y : _≡_ {A = ℕ} 0 1 = cc in absurd (omega arith)
     go false f z = omega (arith, ltb-false longestPayload (length r) f)
 
-module _ (h : Held) (c : Lent) (k : Sound h) where
+module _ (h : Between) (c : Lent) (k : Sound h) where
   abbrev s : Session
   s = h .session
 
   abbrev had : ℕ → Bool
-  had i = after h c .alone i
+  had i = if i <? length (h .received) then h .alone i and getD (c .payload) i 0 =? getD (h .buffer) i 0 else true
 
   -- what is asked of a call's outcome, where r are the bytes received after it
   record Right (r : List ℕ) (o : Outcome) : Type 0 where
-    digest : o .told .next .mode ≡ 2 → (length r ≡ o .told .next .got) × (o .told .next .hash ≡ fedAll (salted (o .told .next .terms)) r)
+    digest : o .answered .next .mode ≡ 2 → (length r ≡ o .answered .next .got) × (o .answered .next .hash ≡ fedAll (salted (o .answered .next .terms)) r)
     places : (i : ℕ) → i < length r → had i ≡ true → getD (o .payload) i 0 ≡ getD r i 0
-    message : (x : Terms) → o .told .happening .what ≡ what.message x → (length r ≡ x .len) × (messageId (saltOf x) r ≡ is (x .id)) × (longestPayload ≤ length (o .payload))
+    message : (x : Terms) → o .answered .happening .what ≡ what.message x → (length r ≡ x .len) × (messageId (saltOf x) r ≡ is (x .id)) × (longestPayload ≤ length (o .payload))
 
   -- a place whose byte came before is in the lent buffer as it was left
   as-left : (i : ℕ) → i < length (h .received) → had i ≡ true → getD (c .payload) i 0 ≡ getD (h .received) i 0
@@ -194,21 +195,13 @@ module _ (h : Held) (c : Lent) (k : Sound h) where
       eqb-true _ _ (and-right (h .alone i) _ b) ∙ k .places i l (and-left (h .alone i) _ b)
 
   -- no payload comes
-  none-right : (o : Outcome) → (o .told .next .mode ≡ 2 → (o .told .next .got ≡ 0) × (o .told .next .hash ≡ salted (o .told .next .terms)))
-      → ((x : Terms) → o .told .happening .what ≡ what.message x → (x .len ≡ 0) × (idNumber (finished (salted x)) ≡ x .id)) → longestPayload ≤ length (o .payload) → Right [] o
+  none-right : (o : Outcome) → (o .answered .next .mode ≡ 2 → (o .answered .next .got ≡ 0) × (o .answered .next .hash ≡ salted (o .answered .next .terms)))
+      → ((x : Terms) → o .answered .happening .what ≡ what.message x → (x .len ≡ 0) × (idNumber (finished (salted x)) ≡ x .id)) → longestPayload ≤ length (o .payload) → Right [] o
   none-right o d m l = record {
     digest = λ e. (sym (d e .0), d e .1);
     places = λ i p a. absurd (omega arith);
     message = λ x e. (sym (m x e .0), id-after x [] (omega arith) (m x e .1), l);
   }
-
-  -- a refused call
-  refused-right : (n : ℕ) → Right (if s .mode =? 2 then h .received ++ take 0 (c .piece) else []) (refused s (c .payload) n)
-  refused-right n =
-      on (λ (r : List ℕ). Right r (refused s (c .payload) n)) (s .mode =? 2) _ _
-      (λ e. subst (λ (r : List ℕ). Right r (refused s (c .payload) n)) (sym (append-nil (h .received)))
-      (record { digest = k .digest; places = as-left; message = λ x e. absurd (not-nothing x e) }))
-      (λ e. record { digest = λ f. absurd (eqb-false _ _ e f); places = λ i p a. absurd (omega arith); message = λ x e. absurd (not-nothing x e) })
 
   -- ---- a call that was made
 
@@ -295,15 +288,28 @@ module _ (h : Held) (c : Lent) (k : Sound h) where
 
   -- ---- every call
 
+  -- what is asked of the call, where g is what the host then has
+  record Fair (g : Between) (o : Outcome) : Type 0 where
+    digest : g .session .mode ≡ 2 → (length (g .received) ≡ g .session .got) × (g .session .hash ≡ fedAll (salted (g .session .terms)) (g .received))
+    places : (i : ℕ) → i < length (g .received) → g .alone i ≡ true → getD (g .buffer) i 0 ≡ getD (g .received) i 0
+    message : (x : Terms) → o .answered .happening .what ≡ what.message x → (length (g .received) ≡ x .len) × (messageId (saltOf x) (g .received) ≡ is (x .id)) × (longestPayload ≤ length (g .buffer))
+
   abbrev Asked : Outcome → Type 0
-  Asked o = Right (if s .mode =? 2 then h .received ++ take (o .told .used) (c .piece) else []) o
+  Asked o = Fair (afterAs (o .answered .answer) h c o) o
+
+  refused-fair : (n : ℕ) → Asked (refused s (c .payload) n)
+  refused-fair n = record { digest = k .digest; places = k .places; message = λ x e. absurd (not-nothing x e) }
+
+  went-fair : Went O → Asked (went s (c .piece) (c .payload) O)
+  went-fair r = record { digest = r .digest; places = r .places; message = r .message }
 
   right : Asked (call s c)
   unfolding stepOf
   right =
-      on Asked (words.no (keepsSession s)) _ _ (λ a. refused-right 40)
-      (λ a. on Asked (s .mode =? 3) _ _ (λ b. refused-right 22)
-      (λ b. on Asked (length (c .payload) <? longestPayload or c .room <? longestReply) _ _ (λ d. refused-right 5) (λ d. goes b (long-enough (length (c .payload)) (c .room) d .0))))
+      on Asked (words.no (keepsSession s)) _ _ (λ a. refused-fair 40)
+      (λ a. on Asked (s .mode =? 3) _ _ (λ b. refused-fair 22)
+      (λ b. on Asked (length (c .payload) <? longestPayload or c .room <? longestReply) _ _ (λ d. refused-fair 5)
+      (λ d. went-fair (goes b (long-enough (length (c .payload)) (c .room) d .0)))))
     where
       goes : (s .mode =? 3) ≡ false → longestPayload ≤ length (c .payload) → Went O
       goes b room = by (s .mode =? 2) refl
@@ -312,15 +318,23 @@ module _ (h : Held) (c : Lent) (k : Sound h) where
           by true e = payload-right room (eqb-true _ _ e)
           by false e = line-right room (mode-low s (kept s (k .keeps)) (eqb-false _ _ b) (eqb-false _ _ e))
 
+  kept-after : (a : answer.Answer) (o : Outcome) → keepsSession (o .answered .next) ≡ true → keepsSession (afterAs a h c o .session) ≡ true
+  kept-after (answer.refused n) o e = k .keeps
+  kept-after answer.made o e = e
+
   after-sound : Sound (after h c)
-  after-sound = record { keeps = step-keeps s (c .piece) (c .payload) (c .room) (k .keeps); digest = right .digest; places = right .places }
+  after-sound = record {
+    keeps = kept-after (call s c .answered .answer) (call s c) (step-keeps s (c .piece) (c .payload) (c .room) (k .keeps));
+    digest = right .digest;
+    places = right .places;
+  }
 
 -- ---- THE THEOREMS
 
 first-sound : Sound atFirst
 first-sound = record { keeps = listening-keeps; digest = λ e. absurd (omega arith); places = λ i p a. absurd (omega arith) }
 
-from-sound : (h : Held) (cs : List Lent) → Sound h → Sound (afterAll h cs)
+from-sound : (h : Between) (cs : List Lent) → Sound h → Sound (afterAll h cs)
 from-sound h [] k = k
 from-sound h (c ∷ cs) k = from-sound (after h c) cs (after-sound h c k)
 
@@ -330,8 +344,8 @@ all-sound cs = from-sound atFirst cs first-sound
 pub place-holds : (cs : List Lent) (i : ℕ) → let h = afterAll atFirst cs in i < length (h .received) → h .alone i ≡ true → getD (h .buffer) i 0 ≡ getD (h .received) i 0
 place-holds cs = all-sound cs .places
 
-module _ (cs : List Lent) (c : Lent) (t : Terms) (m : call (afterAll atFirst cs .session) c .told .happening .what ≡ what.message t) where
-  abbrev H : Held
+module _ (cs : List Lent) (c : Lent) (t : Terms) (m : call (afterAll atFirst cs .session) c .answered .happening .what ≡ what.message t) where
+  abbrev H : Between
   H = after (afterAll atFirst cs) c
 
   pub message-right : (length (H .received) ≡ t .len) × (messageId (record { given = t .«has_salt»; value = t .salt }) (H .received) ≡ is (t .id))

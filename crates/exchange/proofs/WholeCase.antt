@@ -8,7 +8,7 @@ use borrow.Author.Tests.{le-ltb}
 use Rattle.octets.specs.Bytes.{same}
 use Rattle.octets.proofs.Tests.{if-no}
 use Rattle.phrases.specs.Lines.{verb, spells, kindOf}
-use Rattle.phrases.specs.Replies.{prompt}
+use Rattle.replies.specs.Replies.{prompt}
 use Rattle.machine.specs.Machine.{Seen, seen}
 use Rattle.talk.specs.declared.Session.{Session}
 use Rattle.talk.specs.Answer.{Happening}
@@ -16,9 +16,9 @@ use Rattle.talk.specs.Sessions.{listening}
 use Rattle.talk.specs.Talk.{heard}
 use Rattle.session.specs.Feed.{feed}
 use Rattle.session.specs.Answer.{Opening}
-use Rattle.session.specs.Rules.{keepsSession}
+use Rattle.session_rules.specs.Rules.{keepsSession}
 use Rattle.session.specs.Calls.{openOf, openReply}
-use Rattle.exchange.specs.Host.{Lent, told, sees, Goes}
+use Rattle.exchange.specs.Host.{Lent, noted, sees, Goes}
 use Rattle.exchange.specs.Exchange.{hears, whoQuit, whoQuitHeard}
 use Rattle.exchange.proofs.Keeps.{listening-keeps}
 use Rattle.exchange.proofs.Cuts.{through-a-stream, a-host}
@@ -27,7 +27,7 @@ opens : (room : ℕ) → 24 ≤ room → (openOf room .next ≡ listening) × (o
 unfolding openOf openReply
 opens room h = (ap (λ (o : Opening). o .next) (if-no _ _ _ (le-ltb room 24 h)), if-no _ _ _ (le-ltb room 24 h))
 
-said : prompt ++ seen feed told listening whoQuit .reply ≡ whoQuitHeard
+said : prompt ++ seen feed noted listening whoQuit .reply ≡ whoQuitHeard
 unfolding same verb spells kindOf heard feed
 said = refl
 

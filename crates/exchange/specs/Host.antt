@@ -10,6 +10,7 @@ use Rattle.talk.specs.declared.Session.{Session}
 use Rattle.talk.specs.Answer.{Happened, Happening}
 use Rattle.talk.specs.Answer as what
 use Rattle.talk.specs.Sessions.{listening}
+use Rattle.session.specs.Answer as answer
 use Rattle.session.specs.Calls.{Outcome, stepOf}
 
 pub record Lent : Type 0 where
@@ -23,53 +24,58 @@ call s c = stepOf s (c .piece) (c .payload) (c .room)
 -- ---- what is seen of the calls
 
 -- what the host notes of a step: all but "nothing"
-abbrev pub toldOf : Happening → Happened → List Happening
-toldOf h what.nothing = []
-toldOf h (what.offer t) = h ∷ []
-toldOf h (what.message t) = h ∷ []
-toldOf h (what.ended n) = h ∷ []
+abbrev pub notedOf : Happening → Happened → List Happening
+notedOf h what.nothing = []
+notedOf h (what.offer t) = h ∷ []
+notedOf h (what.message t) = h ∷ []
+notedOf h (what.ended n) = h ∷ []
 
-abbrev pub told : Happening → List Happening
-told h = toldOf h (h .what)
+abbrev pub noted : Happening → List Happening
+noted h = notedOf h (h .what)
 
 abbrev pub isClosed : Session → Bool
 isClosed s = s .mode =? 3
 
 abbrev pub stepOn : Session → Lent → Out Session Happening
-stepOn s c = record { used = call s c .told .used; state = call s c .told .next; reply = call s c .reply; happened = call s c .told .happening }
+stepOn s c = record { used = call s c .answered .used; state = call s c .answered .next; reply = call s c .reply; happened = call s c .answered .happening }
 
 abbrev pub pieceOf : Lent → List ℕ
 pieceOf c = c .piece
 
 -- the bytes that calls used; the session, replies and happenings that they came to; a host that goes through a stream
-abbrev pub used : Session → List Lent → List ℕ
-used = bytesUsed stepOn pieceOf
+abbrev pub usedBytes : Session → List Lent → List ℕ
+usedBytes = bytesUsed stepOn pieceOf
 
 abbrev pub sees : Session → List Lent → Seen Session Happening
-sees = seenBy stepOn pieceOf told
+sees = seenBy stepOn pieceOf noted
 
 abbrev pub Goes : Session → List ℕ → List Lent → Type 0
-Goes = Through stepOn pieceOf isClosed told
+Goes = Through stepOn pieceOf isClosed noted
 
 -- ---- what the host has between two calls: the session; of the payload that comes, or has just come, the bytes received; the payload buffer
--- as the last call left it; and at which places every buffer lent since their byte came had what the call before left
-pub record Held : Type 0 where
+-- as the last call that was made left it; and at which places every buffer lent since their byte came to a call that was made had what the one before left
+pub record Between : Type 0 where
   pub session : Session
   pub received : List ℕ
   pub buffer : List ℕ
   pub alone : ℕ → Bool
 
-abbrev pub atFirst : Held
+abbrev pub atFirst : Between
 atFirst = record { session = listening; received = []; buffer = []; alone = λ i. true }
 
-abbrev pub after : Held → Lent → Held
-after h c = record {
-  session = call (h .session) c .told .next;
-  received = if h .session .mode =? 2 then h .received ++ take (call (h .session) c .told .used) (c .piece) else [];
-  buffer = call (h .session) c .payload;
+-- a refused call changes nothing, no lent byte either; one that was made leaves its session, the bytes received and the buffer
+abbrev pub afterAs : answer.Answer → Between → Lent → Outcome → Between
+afterAs (answer.refused n) h c o = h
+afterAs answer.made h c o = record {
+  session = o .answered .next;
+  received = if h .session .mode =? 2 then h .received ++ take (o .answered .used) (c .piece) else [];
+  buffer = o .payload;
   alone = λ i. if i <? length (h .received) then h .alone i and getD (c .payload) i 0 =? getD (h .buffer) i 0 else true;
 }
 
-abbrev pub afterAll : Held → List Lent → Held
+abbrev pub after : Between → Lent → Between
+after h c = afterAs (call (h .session) c .answered .answer) h c (call (h .session) c)
+
+abbrev pub afterAll : Between → List Lent → Between
 afterAll h [] = h
 afterAll h (c ∷ cs) = afterAll (after h c) cs

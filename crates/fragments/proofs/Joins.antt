@@ -4,12 +4,12 @@ use Prim.Native.Nat.{ℕ, zero, suc, _+_, _*_, _-_, _≤_, _<_}
 use native.Mathlib.Omega.{arith}
 use mathlib.Core.Bool.{Bool, true, false}
 use mathlib.Core.List.{List, [], _∷_, _++_}
-use lib.ListN.{length, take, drop, set, getD, length-append, length-take, length-drop, length-set}
+use lib.ListN.{length, take, drop, getD, length-append, length-take, length-drop}
 use borrow.Author.Tests.{eqb-true, leb-true, le-leb}
 use Rattle.octets.specs.Words.{if_then_else_, _and_, every, _<?_, _≤?_, _=?_}
 use Rattle.octets.specs.Bytes.{front, placed}
 use Rattle.octets.proofs.Tests.{and-left, and-right, and-both}
-use Rattle.octets.proofs.Lists.{length-placed, placed-in, placed-none, placed-next, every-at}
+use Rattle.octets.proofs.Lists.{length-placed, placed-in, placed-none, placed-append, every-at}
 use Rattle.groups.specs.declared.Piece.{Piece}
 use Rattle.groups.specs.declared.Group.{Group}
 use Rattle.groups.specs.Groups.{place, storeSize, noPiece, fragments, bytesIn, keepsPiece, keepsPieces}
@@ -66,17 +66,6 @@ module _ (s : List ℕ) (g : ℕ) (h : g < 4) (k : length s ≡ storeSize) where
 
 -- ---- what is still to be written is placed behind what was
 
-placed-append : (w v : List ℕ) (at : ℕ) (l : List ℕ) → at + (length w + length v) ≤ length l → placed (w ++ v) at l ≡ placed v (at + length w) (placed w at l)
-placed-append [] v at l h =
-    let z : at ≡ at + 0 = omega arith in
-    ap (λ (k : ℕ). placed v k l) z ∙ ap (placed v (at + 0)) (sym (placed-none at l (omega arith)))
-placed-append (x ∷ w) v at l h =
-    let z : at + 1 + length w ≡ at + suc (length w) = omega arith in
-    placed-next x (w ++ v) at l (rw length-append (omega arith))
-    ∙ placed-append w v (at + 1) (set l at x) (rw length-set (omega arith))
-    ∙ ap (λ (k : ℕ). placed v k (placed w (at + 1) (set l at x))) z
-    ∙ ap (placed v (at + suc (length w))) (sym (placed-next x w at l (omega arith)))
-
 pub join-next : (s : List ℕ) (g i at len : ℕ) (ps rest : List Piece) (p : Piece) (w out out′ : List ℕ) → ps ≡ p ∷ rest → w ≡ bytesAt s g i p → out′ ≡ placed w at out
     → length w ≡ len → at + (len + length (joinedFrom s g (i + 1) rest)) ≤ length out
     → (length out′ ≡ length out) × (placed (joinedFrom s g (i + 1) rest) (at + len) out′ ≡ placed (joinedFrom s g i ps) at out)
@@ -84,7 +73,7 @@ join-next s g i at len ps rest p w out out′ e f q l h = (
   ap length q ∙ length-placed w at out,
   ap (λ (n : ℕ). placed (joinedFrom s g (i + 1) rest) (at + n) out′) (sym l)
       ∙ ap (placed (joinedFrom s g (i + 1) rest) (at + length w)) q
-      ∙ sym (placed-append w (joinedFrom s g (i + 1) rest) at out (omega arith))
+      ∙ placed-append w (joinedFrom s g (i + 1) rest) at out (omega arith)
       ∙ ap (λ (v : List ℕ). placed (v ++ joinedFrom s g (i + 1) rest) at out) f
       ∙ ap (λ (l : List Piece). placed (joinedFrom s g i l) at out) (sym e),
 )

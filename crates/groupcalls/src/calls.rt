@@ -19,14 +19,15 @@ use groups::Piece;
 pub(crate) fn gate(t: Groups, size: usize, named: Named, ranged: bool) -> u8
     ensures { λ r. ⌜ r ≡ gate t size named ranged ⌝ }
 {
+    let n = named.refusal;
     if !t.keep_rules() {
         return refusals::STATE_BROKEN;
     }
     if size != groups::STORE {
         return refusals::STORE_LENGTH;
     }
-    if named.refusal > 0 {
-        return named.refusal;
+    if n > 0 {
+        return n;
     }
     if !ranged {
         return refusals::FRAGMENT_MALFORMED;
@@ -96,12 +97,15 @@ pub(crate) fn add_at(t: Groups, g: usize, f: Fragment) -> Served
     ensures { λ r. ⌜ says r ≡ addAt t g f ⌝ }
 {
     let x = t.items[g];
-    if x.total != f.total {
-        return refused(refusals::OTHER_TOTAL, t);
-    }
     let at = f.number - 1;
     let p = x.pieces[at];
-    if p.held {
+    let held = p.held;
+    let total = x.total;
+    let announced = f.total;
+    if total != announced {
+        return refused(refusals::OTHER_TOTAL, t);
+    }
+    if held {
         return refused(refusals::FRAGMENT_HELD, t);
     }
     add_to(t, g, x, f)
@@ -130,10 +134,11 @@ pub(crate) fn collect_at(t: Groups, g: usize, room: usize) -> Served
     ensures { λ r. ⌜ says r ≡ collectAt t g room ⌝ }
 {
     let x = t.items[g];
-    if !groups::is_complete(x) {
+    let whole = groups::is_complete(x);
+    let n = groups::joined_length(x);
+    if !whole {
         return refused(refusals::NOT_COMPLETE, t);
     }
-    let n = groups::joined_length(x);
     if room < n {
         return refused(refusals::BUFFER_TOO_SHORT, t);
     }

@@ -76,13 +76,13 @@ impl Groups {
     pub fn find_free(self) -> Found
         ensures { λ r. ⌜ r ≡ first isFree 0 (self .items) ⌝ }
     {
-        let mut i: usize = 0;
-        while i < 4 {
-            let x = self.items[i];
+        let mut g: usize = 0;
+        while g < 4 {
+            let x = self.items[g];
             if !x.used {
-                return Found::At(i);
+                return Found::At(g);
             }
-            i += 1;
+            g += 1;
         }
         Found::Nothing
     }

@@ -30,7 +30,7 @@ use Rattle.streams.proofs.Alone as does
 use Rattle.image.specs.Image.{loadOf}
 use Rattle.image.proofs.Keeps.{load-keeps, load-refused}
 use Rattle.image.proofs.Back.{loadedAs, save-then-load}
-use Rattle.history.specs.History.{take, force, opened, Sent, accepted as taken-in, givenOut, count, countHeld, next, MayPass, Ordered}
+use Rattle.history.specs.History.{take, force, opened, Sent, takenIn, givenOut, count, countHeld, next, MayPass, Ordered}
 use Rattle.history.specs.Chain.{Call, offer, give, close, small, asked, Log, start, loaded, answered, noted, standing, mine, Saved, Chain, begins, asks, loads-own, loads-other, loads-none, closing, rowCall, replay}
 use Rattle.history.proofs.Sound as sound
 use Rattle.history.proofs.Sound.{sound-restored, is-due}
@@ -140,7 +140,7 @@ module _ {l : Log} {t : Table} (x : Chain l t) where
 
     -- (7): a close that is not refused loses nothing: all that was accepted was given out
     pub close-loses-nothing : asked t o s close .answer ≡ accepted
-        → (c : Sent → Bool) → countHeld c (taken-in (mine (keyOf o s) l)) ≡ count c (givenOut (mine (keyOf o s) l))
+        → (c : Sent → Bool) → countHeld c (takenIn (mine (keyOf o s) l)) ≡ count c (givenOut (mine (keyOf o s) l))
     close-loses-nothing a c = omega (arith, demand-3 (keyOf o s) r e .kept c, ap (countHeld c) (none-held t r _ _ _ (does.close-does t o s rules-kept p q r e) a))
 
   -- (4): a call on another stream changes neither the row nor the history, and leaves the row at its row number

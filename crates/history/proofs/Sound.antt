@@ -13,14 +13,14 @@ use Rattle.places.specs.declared.Held.{Held}
 use Rattle.rows.specs.Stream.{Stream, fresh, ascending, insert, gapOpen, due, accept, stay, give}
 use Rattle.rows.specs.Steps.{startAfter}
 use Rattle.rows.proofs.Rules.{Kept}
-use Rattle.history.specs.History.{Way, take, Event, accepts, gives, gives-nothing, History, opened, restored, _▷_, Sent, sent, accepted, givenOut, next, told, count, countHeld, numbered, In, Gap, OpenSince, MayPass, Rightly, Fair, Ordered}
+use Rattle.history.specs.History.{Way, take, Event, accepts, gives, gives-nothing, History, opened, restored, _▷_, Sent, sent, takenIn, givenOut, next, told, count, countHeld, numbered, In, Gap, OpenSince, MayPass, Rightly, Fair, Ordered}
 use Rattle.history.proofs.Counting.{bit-is, count-append, held-append, held-insert, first-low, rest-order, held-low, held-once, Within, within-rises, within-more, count-high, count-once, in-append, in-last, in-insert, one-of}
 
 -- the numbers: e is the next of h, and l is what h accepted and did not give out
 pub record Tally (h : History) (e : ℕ) (l : List Held) : Type 0 where
   pub next-is : next h ≡ e
-  pub counted : (p : Sent → Bool) → countHeld p (accepted h) ≡ count p (givenOut h) + countHeld p l
-  pub came : (m : Held) → In m l → In m (accepted h)
+  pub counted : (p : Sent → Bool) → countHeld p (takenIn h) ≡ count p (givenOut h) + countHeld p l
+  pub came : (m : Held) → In m l → In m (takenIn h)
   pub rising : Within 0 e (givenOut h)
   pub order : ascending e l ≡ true
 
@@ -134,14 +134,14 @@ module _ (h : History) (s : Stream) (k : Sound h s) where
       fair = k .fair;
     }
       where
-        came : (x : Held) → (x ≡ m) ⊎ In x (s .held) → In x (accepted (h ▷ accepts m time))
-        came x (inl q) = subst (λ (y : Held). In y (accepted (h ▷ accepts m time))) (sym q) (in-last m (accepted h))
-        came x (inr i) = in-append x (accepted h) (m ∷ []) (k .tally .came x i)
+        came : (x : Held) → (x ≡ m) ⊎ In x (s .held) → In x (takenIn (h ▷ accepts m time))
+        came x (inl q) = subst (λ (y : Held). In y (takenIn (h ▷ accepts m time))) (sym q) (in-last m (takenIn h))
+        came x (inr i) = in-append x (takenIn h) (m ∷ []) (k .tally .came x i)
 
         tally : Tally (h ▷ accepts m time) (s .expected) (insert m (s .held))
         tally = record {
           next-is = k .tally .next-is;
-          counted = λ p. omega (arith, k .tally .counted p, held-append p (accepted h) (m ∷ []), held-insert p m (s .held));
+          counted = λ p. omega (arith, k .tally .counted p, held-append p (takenIn h) (m ∷ []), held-insert p m (s .held));
           came = λ x i. came x (in-insert x m (s .held) i);
           rising = k .tally .rising;
           order = order;
@@ -152,8 +152,8 @@ module _ (h : History) (s : Stream) (k : Sound h s) where
     order : ascending (s .expected) (m ∷ rest) ≡ true
     order = subst (λ (l : List Held). ascending (s .expected) l ≡ true) is (k .tally .order)
 
-    counts : (p : Sent → Bool) → countHeld p (accepted h) ≡ count p (givenOut h) + countHeld p (m ∷ rest)
-    counts p = subst (λ (l : List Held). countHeld p (accepted h) ≡ count p (givenOut h) + countHeld p l) is (k .tally .counted p)
+    counts : (p : Sent → Bool) → countHeld p (takenIn h) ≡ count p (givenOut h) + countHeld p (m ∷ rest)
+    counts p = subst (λ (l : List Held). countHeld p (takenIn h) ≡ count p (givenOut h) + countHeld p l) is (k .tally .counted p)
 
     event : Event
     event = gives way (m .number) (m .slip) time
@@ -218,10 +218,10 @@ module _ (h : History) (s : Stream) (k : Sound h s) (m : Held) (rest : List Held
       (m, k .tally .came m (subst (λ (l : List Held). In m l) (sym is) (inl refl)), refl, omega arith, (s .gapStart, k .stood g, omega (arith, k .told-is)))
 
 -- no number was accepted twice
-pub once : (h : History) (s : Stream) → Sound h s → (n : ℕ) → countHeld (numbered n) (accepted h) ≤ 1
+pub once : (h : History) (s : Stream) → Sound h s → (n : ℕ) → countHeld (numbered n) (takenIn h) ≤ 1
 once h s k n = go (decLe (s .expected) n)
   where
-    go : Dec (s .expected ≤ n) → countHeld (numbered n) (accepted h) ≤ 1
+    go : Dec (s .expected ≤ n) → countHeld (numbered n) (takenIn h) ≤ 1
     go (yes le) = omega (arith, k .tally .counted (numbered n), count-high n 0 (s .expected) (givenOut h) le (k .tally .rising), held-once n (s .expected) (s .held) (k .tally .order))
     go (no gt) = omega (
       arith,
@@ -245,7 +245,7 @@ pub is-due : (h : History) (s : Stream) → Sound h s → (m : Held) (rest : Lis
 is-due h s k m rest is time (inl e) = or-left (m .number =? s .expected) _ (eq-eqb (m .number) (s .expected) (e ∙ k .tally .next-is))
 is-due h s k m rest is time (inr (x, i, q, p, (start, stands, le))) =
     let j = k .tally .came m (subst (λ (l : List Held). In m l) (sym is) (inl refl)) in
-    let same : x ≡ m = one-of x m (accepted h) q (once h s k (x .number)) i j in
+    let same : x ≡ m = one-of x m (takenIn h) q (once h s k (x .number)) i j in
     let t : x .timeout ≡ m .timeout = ap (λ (y : Held). y .timeout) same in
     or-second (m .number =? s .expected) _
     (and-both _ _ (lt-ltb 0 (m .timeout) (omega arith)) (le-leb (m .timeout) (max (s .clock) time - s .gapStart) (omega (arith, k .earliest start stands, k .told-is))))

@@ -101,7 +101,7 @@ pub data Chain : Log → Table → Type 0 where
   -- after a load of an image that a save of ours wrote, in this chain or in another, the log that counts is that of the chain at the save;
   -- so a restart is: `begins`, then a load of the image saved before
   loads-own : {l k : Log} {t u : Table} → Chain l t → Chain k u → (image : List ℕ) → Saved u image → Chain k (loadOf t image .after)
-  -- after a load of any other image it begins there; a load that is refused changes nothing
+  -- after a load of any image, read as not ours, it begins there; a load that is refused changes nothing
   loads-other : {l : Log} {t : Table} → Chain l t → (image : List ℕ) → loadOf t image .answer ≡ accepted → Chain (loaded (loadOf t image .after)) (loadOf t image .after)
   loads-none : {l : Log} {t : Table} → Chain l t → (image : List ℕ) (n : ℕ) → loadOf t image .answer ≡ refused n → Chain l (loadOf t image .after)
 

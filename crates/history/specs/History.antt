@@ -37,13 +37,13 @@ pub record Sent : Type 0 where
 abbrev pub sent : Held → Sent
 sent m = record { number = m .number; slip = m .slip }
 
--- the messages accepted, and those given out, the oldest first
-abbrev pub accepted : History → List Held
-accepted opened = []
-accepted (restored r) = r .held
-accepted (h ▷ accepts m time) = accepted h ++ (m ∷ [])
-accepted (h ▷ gives way n slip time) = accepted h
-accepted (h ▷ gives-nothing time) = accepted h
+-- the messages taken in, which are those accepted, and those given out, the oldest first
+abbrev pub takenIn : History → List Held
+takenIn opened = []
+takenIn (restored r) = r .held
+takenIn (h ▷ accepts m time) = takenIn h ++ (m ∷ [])
+takenIn (h ▷ gives way n slip time) = takenIn h
+takenIn (h ▷ gives-nothing time) = takenIn h
 
 abbrev pub givenOut : History → List Sent
 givenOut opened = []
@@ -101,7 +101,7 @@ Rises low (x ∷ l) = (low ≤ x .number) × Rises (x .number + 1) l
 
 -- the gap is open: some number was accepted and not given out, and the next was not accepted
 abbrev pub Gap : History → Type 0
-Gap h = ((n : ℕ) × (count (numbered n) (givenOut h) < countHeld (numbered n) (accepted h))) × (countHeld (numbered (next h)) (accepted h) ≡ 0)
+Gap h = ((n : ℕ) × (count (numbered n) (givenOut h) < countHeld (numbered n) (takenIn h))) × (countHeld (numbered (next h)) (takenIn h) ≡ 0)
 
 abbrev pub GivesNone : Event → Type 0
 GivesNone (accepts m time) = Unit {0}
@@ -122,12 +122,12 @@ OpenSince since (h ▷ e) = Gap (h ▷ e) × ((told (h ▷ e) ≡ since) ⊎ (Gi
 abbrev pub MayPass : History → Way → ℕ → ℕ → Type 0
 MayPass h force n time = Unit {0}
 MayPass h take n time =
-    (m : Held) × In m (accepted h) × (m .number ≡ n) × (0 < m .timeout) × ((since : ℕ) × OpenSince since h × (since + m .timeout ≤ max (told h) time))
+    (m : Held) × In m (takenIn h) × (m .number ≡ n) × (0 < m .timeout) × ((since : ℕ) × OpenSince since h × (since + m .timeout ≤ max (told h) time))
 
 -- after h, number n is given out rightly: no accepted number is passed over, and a missing one only where it may be
 pub record Rightly (h : History) (way : Way) (n time : ℕ) : Type 0 where
   pub in-turn : next h ≤ n
-  pub missing : (i : ℕ) → next h ≤ i → i < n → countHeld (numbered i) (accepted h) ≡ 0
+  pub missing : (i : ℕ) → next h ≤ i → i < n → countHeld (numbered i) (takenIn h) ≡ 0
   pub passes : next h < n → MayPass h way n time
 
 abbrev pub Fair : History → Type 0
@@ -140,9 +140,9 @@ Fair (h ▷ gives-nothing time) = Fair h
 -- what holds of a stream's history and of what is held after it
 pub record Ordered (h : History) (held : List Held) : Type 0 where
   -- whatever the test, as many messages that pass it were accepted as were given out and are still held
-  pub kept : (p : Sent → Bool) → countHeld p (accepted h) ≡ count p (givenOut h) + countHeld p held
+  pub kept : (p : Sent → Bool) → countHeld p (takenIn h) ≡ count p (givenOut h) + countHeld p held
   -- and no number was accepted twice
-  pub once : (n : ℕ) → countHeld (numbered n) (accepted h) ≤ 1
+  pub once : (n : ℕ) → countHeld (numbered n) (takenIn h) ≤ 1
   -- the numbers given out strictly rise, and what is held comes after them
   pub rises : Rises 0 (givenOut h)
   pub waits : ascending (next h) held ≡ true

@@ -2,7 +2,7 @@
 -- refused the buffer.
 use Prim.Native.Nat.{ℕ}
 use native.Mathlib.Omega.{arith}
-use mathlib.Core.Path.{_≡_, refl}
+use mathlib.Core.Path.{_≡_, refl, sym, ap, _∙_}
 use mathlib.Core.Bool.{Bool, true, false}
 use mathlib.Core.List.{List}
 use mathlib.Core.Option.{none, some}
@@ -26,7 +26,7 @@ kept-by s t (got l n) e = go (same (drop n s) (endRecord (rowCount l)) and keeps
     go : (b : Bool) → same (drop n s) (endRecord (rowCount l)) and keepsTable (record { slots = l }) ≡ b → (if b then some (record { slots = l }) else none) ≡ some t → keepsTable t ≡ true
     go true p e =
         let f : _≡_ {A = Table} (record { slots = l }) t = cc in
-        rw f at (and-right (same (drop n s) (endRecord (rowCount l))) _ p)
+        ap keepsTable (sym f) ∙ and-right (same (drop n s) (endRecord (rowCount l))) _ p
     go false p e = let z : _≡_ {A = ℕ} 0 1 = cc in absurd (omega arith)
 
 -- a table that was read keeps the rules

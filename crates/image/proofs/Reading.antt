@@ -1,7 +1,7 @@
 -- What the steps of a load come to: the open rows counted, what was read, and the end.
 use Prim.Native.Nat.{ℕ, zero, suc, _+_, _≤_}
 use native.Mathlib.Omega.{arith}
-use mathlib.Core.Path.{_≡_, refl, sym, ap, _∙_}
+use mathlib.Core.Path.{_≡_, refl, sym, ap, _∙_, subst}
 use mathlib.Core.Bool.{Bool, true, false}
 use mathlib.Core.List.{List, [], _∷_}
 use mathlib.Core.Option.{none, some}
@@ -9,7 +9,7 @@ use lib.ListN.{length, drop, length-drop}
 use Rattle.octets.specs.Words.{if_then_else_, _and_, no}
 use Rattle.octets.specs.Bytes.{same}
 use Rattle.octets.specs.Field.{Res, bad, got, bind}
-use Rattle.octets.proofs.Tests.{if-yes, if-no, no-true, no-false, and-both, and-not-left, and-not-right}
+use Rattle.octets.proofs.Tests.{true-not-false, if-yes, if-no, no-true, no-false, and-both, and-not-left, and-not-right}
 use Rattle.octets.proofs.FieldLaws.{bound}
 use Rattle.refusals.specs.Numbers.{stateBroken, noSavedImage}
 use Rattle.rows.specs.Answer.{accepted, Outcome, refuse}
@@ -18,10 +18,10 @@ use Rattle.streams.specs.declared.Table.{Table}
 use Rattle.streams.specs.declared.Count.{Count}
 use Rattle.streams.specs.Answer.{Counted, counted, uncounted, countSays}
 use Rattle.streams.specs.Calls as calls
-use Rattle.streams.specs.Table.{keepsTable, count}
+use Rattle.streams.specs.Table.{keepsTable, keepsSlots, count}
 use Rattle.streams.proofs.Lookups.{kept}
 use Rattle.image_rows.specs.declared.RowsRead.{RowsRead}
-use Rattle.image_rows.specs.Steps.{rowsRead}
+use Rattle.image_rows.specs.Steps.{rowsRead, noRows}
 use Rattle.image_rows.proofs.Reading.{from, rest, slot-takes}
 use Rattle.image.specs.Image.{endRecord, rowCount, slotFrom, slotsFrom, ended, tableOf, replaced, loadOf}
 
@@ -69,13 +69,29 @@ module _ (t : Table) where
 
 -- ---- the load
 
-rows-missed : (x : Res (List Slot)) (r : RowsRead) → r ≡ rowsRead x → r .good ≡ false → x ≡ bad
-rows-missed bad r e t = refl
-rows-missed (got y n) r e t = let z : _≡_ {A = ℕ} 0 1 = cc in absurd (omega arith)
+rows-missed : (s : List ℕ) (x : Res (List Slot)) (r : RowsRead) → r ≡ rowsRead x → r .good ≡ false → ended s x ≡ none
+rows-missed s bad r e g = refl
+rows-missed s (got l n) r e g = go (keepsSlots l) refl (ap (λ (q : RowsRead). q .good) e)
+  where
+    go : (b : Bool) → keepsSlots l ≡ b
+        → r .good ≡ (if_then_else_ {A = RowsRead} b (record { good = true; used = n; rows = rowCount l; table = record { slots = l } }) noRows) .good
+        → ended s (got l n) ≡ none
+    go true k q = true-not-false (r .good) q g
+    go false k q = if-no _ _ _ (and-not-right (same (drop n s) (endRecord (rowCount l))) _ k)
 
-rows-found : (x : Res (List Slot)) (r : RowsRead) → r ≡ rowsRead x → r .good ≡ true → x ≡ got (r .table .slots) (r .used)
-rows-found bad r e t = let z : _≡_ {A = ℕ} 0 1 = cc in absurd (omega arith)
-rows-found (got y n) r e t = sym (ap (λ (q : RowsRead). got (q .table .slots) (q .used)) e)
+rows-found : (x : Res (List Slot)) (r : RowsRead) → r ≡ rowsRead x → r .good ≡ true → (x ≡ got (r .table .slots) (r .used)) × Rules (r .table) (r .rows)
+rows-found bad r e g = let z : _≡_ {A = ℕ} 0 1 = cc in absurd (omega arith)
+rows-found (got l n) r e g = go (keepsSlots l) refl e
+  where
+    read : RowsRead
+    read = record { good = true; used = n; rows = rowCount l; table = record { slots = l } }
+
+    is : keepsTable (record { slots = l }) ≡ true → (got l n ≡ got (read .table .slots) (read .used)) × Rules (read .table) (read .rows)
+    is k = (refl, record { keeps = k; rows = refl; few = omega (arith, count-most l, kept (record { slots = l }) k .long) })
+
+    go : (b : Bool) → keepsSlots l ≡ b → r ≡ (if b then read else noRows) → (got l n ≡ got (r .table .slots) (r .used)) × Rules (r .table) (r .rows)
+    go true k q = subst (λ (y : RowsRead). (got l n ≡ got (y .table .slots) (y .used)) × Rules (y .table) (y .rows)) (sym q) (is k)
+    go false k q = true-not-false (r .good) g (ap (λ (y : RowsRead). y .good) q)
 
 rows-take : (k i : ℕ) (s : List ℕ) (l : List Slot) (n : ℕ) → slotsFrom k i s ≡ got l n → n ≤ length s
 rows-take zero i s l n e = let en : n ≡ 0 = cc in omega arith
@@ -93,11 +109,14 @@ module _ (t : Table) (s : List ℕ) where
   module _ (k : keepsTable t ≡ true) (r : RowsRead) (er : r ≡ rowsRead (slotsFrom 32 0 s)) where
     pub load-bad : r .good ≡ false → refuse noSavedImage t ≡ loadOf t s
     unfolding loadOf tableOf
-    load-bad q = sym (if-no _ _ _ (no-true _ k) ∙ rw (rows-missed (slotsFrom 32 0 s) r er q))
+    load-bad q = sym (if-no _ _ _ (no-true _ k) ∙ ap (replaced t) (rows-missed s (slotsFrom 32 0 s) r er q))
 
     module _ (q : r .good ≡ true) where
       read : slotsFrom 32 0 s ≡ got (r .table .slots) (r .used)
-      read = rows-found (slotsFrom 32 0 s) r er q
+      read = rows-found (slotsFrom 32 0 s) r er q .0
+
+      pub load-rules : Rules (r .table) (r .rows)
+      load-rules = rows-found (slotsFrom 32 0 s) r er q .1
 
       pub load-room : r .used ≤ length s
       load-room = rows-take 32 0 s (r .table .slots) (r .used) read
@@ -109,15 +128,12 @@ module _ (t : Table) (s : List ℕ) where
       unfolding loadOf tableOf
       load-by = if-no _ _ _ (no-true _ k) ∙ ap (λ (x : Res (List Slot)). replaced t (ended s x)) read
 
-      pub load-breaks : keepsTable (r .table) ≡ false → refuse noSavedImage t ≡ loadOf t s
-      load-breaks f = sym (load-by ∙ ap (replaced t) (if-no _ _ _ (and-not-right (same (drop (r .used) s) (endRecord (rowCount (r .table .slots)))) _ f)))
-
-      module _ (n : ℕ) (u : Rules (r .table) n) (b : Bool) (eb : b ≡ same (from (r .used) s) (endRecord n)) where
+      module _ (b : Bool) (eb : b ≡ same (from (r .used) s) (endRecord (r .rows))) where
         end-is : same (drop (r .used) s) (endRecord (rowCount (r .table .slots))) ≡ b
-        end-is = ap (λ (l : List ℕ). same l (endRecord (rowCount (r .table .slots)))) (sym (rest (r .used) s)) ∙ ap (λ (m : ℕ). same (from (r .used) s) (endRecord m)) (sym (u .rows)) ∙ sym eb
+        end-is = ap (λ (l : List ℕ). same l (endRecord (rowCount (r .table .slots)))) (sym (rest (r .used) s)) ∙ ap (λ (m : ℕ). same (from (r .used) s) (endRecord m)) (sym (load-rules .rows)) ∙ sym eb
 
         pub load-end : b ≡ false → refuse noSavedImage t ≡ loadOf t s
         load-end e = sym (load-by ∙ ap (replaced t) (if-no _ _ _ (and-not-left _ (keepsTable (r .table)) (end-is ∙ e))))
 
         pub load-yes : b ≡ true → _≡_ {A = Outcome Table} (record { answer = accepted; after = r .table }) (loadOf t s)
-        load-yes e = sym (load-by ∙ ap (replaced t) (if-yes _ _ _ (and-both _ _ (end-is ∙ e) (u .keeps))))
+        load-yes e = sym (load-by ∙ ap (replaced t) (if-yes _ _ _ (and-both _ _ (end-is ∙ e) (load-rules .keeps))))

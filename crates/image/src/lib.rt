@@ -52,14 +52,10 @@ pub fn load(t: Table, image: &[u8]) -> Loaded
         return walk::refused(refusals::NO_SAVED_IMAGE, t);
     }
     let used = r.used;
-    let u = r.table;
-    let rows = u.open_rows();
-    let Count::Rows(n) = rows else {
-        return walk::refused(refusals::NO_SAVED_IMAGE, t);
-    };
-    if !walk::is_end(&image[used..], n) {
+    if !walk::is_end(&image[used..], r.rows) {
         return walk::refused(refusals::NO_SAVED_IMAGE, t);
     }
+    let u = r.table;
     Loaded {
         answer: Accepting::Accepted,
         table: u,

@@ -23,9 +23,6 @@ pub(crate) fn is_end(d: &[u8], rows: usize) -> bool
     requires { ⌜ rows ≤ 255 ⌝ }
     ensures { λ r. ⌜ r ≡ same (now (d .entry)) (endRecord rows) ⌝ }
 {
-    if d.len() != 3 {
-        return false;
-    }
     let end = [0x53u8, 0x45u8, rows as u8];
-    octets::equal(&d[0..3], &end)
+    octets::equal(d, &end)
 }

@@ -6,7 +6,7 @@ use mathlib.Core.Bool.{Bool, true, false}
 use mathlib.Core.List.{List, _∷_, append-nil}
 use lib.ListN.{length, take, drop, set, length-set, length-drop, length-take}
 use lib.Seq.{take-all, drop-drop}
-use Rattle.octets.specs.Words.{if_then_else_}
+use Rattle.octets.specs.Words.{if_then_else_, no}
 use Rattle.octets.specs.Bytes.{same}
 use Rattle.octets.specs.Field.{Res, bad, got, bind}
 use Rattle.octets.proofs.Tests.{if-yes, if-no}
@@ -15,14 +15,17 @@ use Rattle.octets.proofs.FieldLaws.{bound}
 use Rattle.keys.specs.declared.Key.{Key}
 use Rattle.rows.specs.declared.Row.{Row}
 use Rattle.slots.specs.declared.Slot.{Slot}
-use Rattle.streams.specs.Table.{freeSlot}
+use Rattle.slot_rules.specs.declared.Ruled.{Ruled}
+use Rattle.slot_rules.specs.Slots.{numberOf, broken, testOf}
+use Rattle.streams.specs.Table.{freeSlot, isFree, hasKey, keepsSlots, first, count}
 use Rattle.records.specs.declared.Reading.{Reading}
 use Rattle.records.specs.Record.{body, readingOf}
 use Rattle.records.proofs.Laws.{body-laws}
 use Rattle.records.proofs.Turns.{after, after-none, after-turn, taken-more}
 use Rattle.image_rows.specs.declared.walk.SlotRead.{SlotRead}
+use Rattle.image_rows.specs.declared.RowsRead.{RowsRead}
 use Rattle.image_rows.specs.Rows.{rowMark, openSlot, slotFrom, slotsFrom}
-use Rattle.image_rows.specs.Steps.{slotRead}
+use Rattle.image_rows.specs.Steps.{slotRead, noRows, rowsRead}
 
 -- the rest of a slice
 abbrev pub from : ℕ → List ℕ → List ℕ
@@ -134,3 +137,24 @@ module _ (d : List ℕ) where
       ∙ ap (λ (n : ℕ). after (take i slots) at (slotsFrom n i (drop at d))) (let e : 32 - i ≡ 0 = omega arith in e)
       ∙ ap (λ (q : List Slot). got q (at + 0)) (append-nil (take i slots) ∙ take-all i slots (omega (arith, g .size)))
       ∙ ap (got slots) (let e : at + 0 ≡ at = omega arith in e)
+
+-- ---- the rules of the rows together
+
+module _ (l : List Slot) (n : ℕ) (k : Key) (r : Ruled) (e : r ≡ testOf l k) where
+  is-kept : r .good ≡ keepsSlots l
+  unfolding testOf
+  is-kept = rw e (go (keepsSlots l))
+    where
+      go : (b : Bool) → (if_then_else_ {A = Ruled} (no b) broken (record { good = true; found = numberOf (first (hasKey k) 0 l); free = numberOf (first isFree 0 l); rows = count (λ x. x .used) l })) .good ≡ b
+      go true = refl
+      go false = refl
+
+  pub rules-broken : r .good ≡ false → noRows ≡ rowsRead (got l n)
+  rules-broken f = sym (if-no _ _ _ (sym is-kept ∙ f))
+
+  pub rules-kept : r .good ≡ true → _≡_ {A = RowsRead} (record { good = true; used = n; rows = r .rows; table = record { slots = l } }) (rowsRead (got l n))
+  unfolding testOf
+  rules-kept g =
+      let f = sym is-kept ∙ g in
+      let c : r .rows ≡ count (λ x. x .used) l = rw (e, f) in
+      ap {B = RowsRead} (λ (m : ℕ). record { good = true; used = n; rows = m; table = record { slots = l } }) c ∙ sym (if-yes _ _ _ f)

@@ -9,10 +9,12 @@ mod walk;
 use slots::Slot;
 use streams::Table;
 
-// The rows that an image begins with, and how many bytes they took; where its bytes are no rows, an empty table.
+// The table of the rows that an image begins with, how many bytes they took and how many are open; where its bytes are no rows of a table
+// that keeps the rules, an empty table.
 pub struct RowsRead {
     pub good: bool,
     pub used: usize,
+    pub rows: usize,
     pub table: Table,
 }
 
@@ -23,11 +25,12 @@ fn no_rows() -> RowsRead
     RowsRead {
         good: false,
         used: 0,
+        rows: 0,
         table: t,
     }
 }
 
-// The 32 rows, and how many bytes they took.
+// The 32 rows, with distinct keys.
 pub fn read_rows(d: &[u8]) -> RowsRead
     ensures { λ r. ⌜ r ≡ rowsRead (slotsFrom 32 0 (now (d .entry))) ⌝ }
 {
@@ -45,9 +48,15 @@ pub fn read_rows(d: &[u8]) -> RowsRead
         at += r.used;
         i += 1;
     }
+    let key = keys::none();
+    let r = slot_rules::test(slots, key);
+    if !r.good {
+        return no_rows();
+    }
     RowsRead {
         good: true,
         used: at,
+        rows: r.rows,
         table: Table { slots: slots },
     }
 }

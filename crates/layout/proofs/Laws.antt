@@ -15,6 +15,7 @@ use Rattle.octets.proofs.FieldLaws.{Laws, num-laws, raw-laws, only-laws, when-l
 use Rattle.text.specs.Digits.{isDigit}
 use Rattle.text.specs.Hex.{hexValue, hexDigits}
 use Rattle.text.proofs.Hexes.{hex-forth, hex-below}
+use Rattle.field_rules.specs.Rules.{idIn}
 use Rattle.headers.specs.declared.Header.{Header}
 use Rattle.headers.specs.Keys.{keyOf}
 use Rattle.headers.specs.Rule.{valueOf}
@@ -75,9 +76,9 @@ streamName-laws =
     (text-laws 1 255)
 
 pub hexId-laws : Laws hexId
-unfolding hexId
+unfolding hexId idIn
 hexId-laws =
-    through-laws hexValue (hexDigits 7) (λ v. v <? 2 ^ 28) (raw (isDigit 16) 7) (λ l e. (hex-forth 7 l e, lt-ltb _ _ (hex-below 7 l e))) (raw-laws (isDigit 16) 7)
+    through-laws hexValue (hexDigits 7) idIn (raw (isDigit 16) 7) (λ l e. (hex-forth 7 l e, lt-ltb _ _ (hex-below 7 l e))) (raw-laws (isDigit 16) 7)
 
 -- ---- lists
 

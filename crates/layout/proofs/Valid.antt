@@ -60,7 +60,7 @@ unfolding streamName streamIn text
 stream-rule t e = text-rule streamId 255 (t .len) (streamBytes t) (and-left _ _ e) (text-short 1 255 (streamBytes t) (and-right (t .len ≤? 255) _ e))
 
 pub id-tidy : (v : ℕ) → hexId .ok v ≡ true → hexId .tidy v ≡ v
-unfolding hexId
+unfolding hexId idIn
 id-tidy v e = hex-back 7 v (ltb-true v (2 ^ 28) (and-left _ _ e))
 
 -- ---- lists

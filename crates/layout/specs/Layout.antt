@@ -10,6 +10,7 @@ use Rattle.octets.specs.Bytes.{front}
 use Rattle.octets.specs.Field.{Field, num, raw, only, when, seq, tagged, through, many, signedNum}
 use Rattle.text.specs.Digits.{isDigit}
 use Rattle.text.specs.Hex.{hexValue, hexDigits}
+use Rattle.field_rules.specs.Rules.{idIn}
 use Rattle.headers.specs.declared.Header.{Header}
 use Rattle.headers.specs.declared.Headers.{Headers}
 use Rattle.headers.specs.Keys.{keyOf}
@@ -42,7 +43,7 @@ streamName = through streamText streamBytes (λ t. t .len ≤? 255) (text 1 255)
 
 -- an id: 7 hexadecimal digits
 unfoldable pub hexId : Field ℕ
-hexId = through hexValue (hexDigits 7) (λ v. v <? 2 ^ 28) (raw (isDigit 16) 7)
+hexId = through hexValue (hexDigits 7) idIn (raw (isDigit 16) 7)
 
 -- [1] hop count, then per hop [1] hop length, [N] hop callsign; 0 to 16 hops
 abbrev pub hopList : Field (List CallText)

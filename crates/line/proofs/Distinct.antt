@@ -5,7 +5,6 @@ use mathlib.Core.Path.{_≡_, refl, ap, sym, _∙_}
 use mathlib.Core.Bool.{Bool, true, false}
 use mathlib.Core.List.{List, [], _∷_, _++_, map}
 use native.Mathlib.Omega.{arith}
-use borrow.Author.Tests.{leb-true}
 use lib.ListN.{length, take, drop, replicate, length-map}
 use lib.Seq.{take-at}
 use Rattle.octets.specs.Words.{if_then_else_, _and_, _or_, no, _≤?_, every, some}

@@ -3,17 +3,17 @@ use Prim.Native.Nat.{ℕ, zero, suc, _-_}
 use mathlib.Core.Bool.{Bool, true}
 use mathlib.Core.List.{List}
 use lib.ListN.{length, take}
-use Rattle.octets.specs.Words.{if_then_else_, _and_, no, _<?_, _=?_}
-use Rattle.refusals.specs.Numbers.{lineMalformed, chkDiffers, formatD, payloadTooLong, longestPayload}
+use Rattle.octets.specs.Words.{if_then_else_, _and_, no, _=?_}
 use Rattle.text.specs.Hex.{hexValue}
 use Rattle.names.specs.Reserved.{keyChk}
 use Rattle.crc16.specs.Crc.{crc16}
 use Rattle.envelope.specs.Texts.{blankEnvelope}
 use Rattle.envelope.specs.Rules.{envelope}
-use Rattle.tokens.specs.Tokens.{Token, tokens, given, value}
+use Rattle.tokens.specs.Tokens.{Token, tokens, present, value}
 use Rattle.line_groups.specs.Rules.{deflated, payloadGood, singlesGood, fragmentGood, streamGood}
 use Rattle.line_groups.specs.Answers.{lenOf}
 use Rattle.line_places.specs.Headers.{headersFit}
+use Rattle.line_refusals.specs.Order.{refusesReading}
 pub use Rattle.line_frame.specs.Frame.{ihave, verbWord, idWord, restOf}
 unfoldable pub use Rattle.line_frame.specs.Frame.{plain, isText, framed}
 unfoldable pub use Rattle.line_fields.specs.Fields.{fieldsOf}
@@ -42,16 +42,11 @@ wellFormed s =
 
 -- `chk`, where it is there, is the check of the bytes before the space that precedes it: all but the last nine, ` chk=` and four digits
 unfoldable pub chkRight : List ℕ → List Token → Bool
-chkRight s ts = if given keyChk ts then crc16 (take (length s - 9) s) =? hexValue (value keyChk ts) else true
+chkRight s ts = if present keyChk ts then crc16 (take (length s - 9) s) =? hexValue (value keyChk ts) else true
 
 -- the number that refuses the line, the lowest first; 0 where none does
 unfoldable pub refusalOf : List ℕ → ℕ
-refusalOf s =
-    if no (wellFormed s) then lineMalformed
-    else if no (chkRight s (tokens (restOf s))) then chkDiffers
-    else if deflated (tokens (restOf s)) then formatD
-    else if longestPayload <? lenOf (tokens (restOf s)) then payloadTooLong
-    else 0
+refusalOf s = refusesReading (no (wellFormed s)) (no (chkRight s (tokens (restOf s)))) (deflated (tokens (restOf s))) (lenOf (tokens (restOf s)))
 
 -- ---- the answer, in this paper's words: its number and values for each case of the answer's enum
 

@@ -3,8 +3,7 @@ use Prim.Native.Nat.{ℕ}
 use mathlib.Core.Bool.{Bool, true}
 use mathlib.Core.List.{List, [], _∷_, _++_, map}
 use lib.ListN.{length, take}
-use Rattle.octets.specs.Words.{if_then_else_, _and_, no, _<?_, _≤?_}
-use Rattle.refusals.specs.Numbers.{lineMalformed, payloadTooLong, longestPayload, bufferTooShort}
+use Rattle.octets.specs.Words.{if_then_else_}
 use Rattle.text.specs.Decimal.{decimal, signedDecimal}
 use Rattle.text.specs.Hex.{hexDigits}
 use Rattle.names.specs.Reserved.{keyLen, keyFmt, keyS, keyDst, keyChk, keyTtl, keySrc, keyMid, keyFrag, keySid, keySn, keyGt}
@@ -18,6 +17,7 @@ use Rattle.tokens.specs.Tokens.{Token, token, wordOf, spaced}
 use Rattle.line.specs.declared.Line.{Line}
 use Rattle.line_values.specs.Values.{slash}
 use Rattle.line_groups.specs.Rules.{'p'}
+use Rattle.line_refusals.specs.Order.{refusesWriting, lineGood}
 use Rattle.line.specs.Reading.{ihave}
 
 -- a token that is written where `on` is true
@@ -82,12 +82,8 @@ written m = printOf m ++ (0x0A ∷ [])
 
 -- which messages can be written: by the rules that the reader tests, and in at most 512 bytes
 unfoldable pub messageGood : Line → Bool
-messageGood m = envelope (m .fields) and (m .len ≤? 2147483647 and length (printOf m) ≤? 512)
+messageGood m = lineGood (envelope (m .fields)) (m .len) (length (printOf m))
 
 -- the number that refuses the writing into a buffer of `room` bytes, the lowest first; 0 where none does
 unfoldable pub writeRefusal : Line → ℕ → ℕ
-writeRefusal m room =
-    if no (messageGood m) then lineMalformed
-    else if longestPayload <? m .len then payloadTooLong
-    else if room <? length (written m) then bufferTooShort
-    else 0
+writeRefusal m room = refusesWriting (messageGood m) (m .len) (length (written m)) room

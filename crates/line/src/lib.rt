@@ -73,18 +73,9 @@ pub fn read_line(s: &[u8]) -> LineAnswer
     let fields = v.fields;
     let valid = envelope::is_valid(fields);
     let right = is_right(s, v.has_chk, v.chk);
-    let len = v.len as usize;
-    if !valid {
-        return refuse(refusals::LINE_MALFORMED);
-    }
-    if !right {
-        return refuse(refusals::CHK_DIFFERS);
-    }
-    if v.deflated {
-        return refuse(refusals::FORMAT_D);
-    }
-    if len > refusals::LONGEST_PAYLOAD {
-        return refuse(refusals::PAYLOAD_TOO_LONG);
+    let number = line_refusals::refuses_reading(!valid, !right, v.deflated, v.len);
+    if number != 0 {
+        return refuse(number);
     }
     let line = Line { len: v.len, fields };
     LineAnswer {

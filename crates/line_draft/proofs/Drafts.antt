@@ -23,7 +23,7 @@ module _ (w : List ℕ) (d : Draft) where
   unfolding added
   added-full e = if-no _ _ _ e
 
-stays-full : (w : List ℕ) → added w fullDraft ≡ fullDraft
+pub stays-full : (w : List ℕ) → added w fullDraft ≡ fullDraft
 stays-full w = added-full w fullDraft (lt-leb (513 + length w) (length {A = ℕ} (replicate 512 0)) (omega (arith, length-replicate {A = ℕ} 512 0)))
 
 pub add-append : (a b : List ℕ) (d : Draft) → added b (added a d) ≡ added (a ++ b) d

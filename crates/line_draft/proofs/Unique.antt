@@ -1,5 +1,5 @@
 -- Every public function leaves one outcome and asks nothing.
-use mathlib.Core.Path.{refl, sym, _∙_}
+use mathlib.Core.Path.{sym, _∙_}
 use Rattle.octets.specs.Unique.{One, Free}
 use Rattle.line_draft.proofs.put.Kinds as put-kinds
 use Rattle.line_draft.proofs.put.Reads as put-reads

@@ -1,7 +1,7 @@
 -- The groups of a line's keys together: the first that is not good decides, and the fields are those that the tokens say.
 use Prim.Native.Nat.{ℕ, _<_}
 use mathlib.Core.Path.{_≡_, refl, ap, sym, _∙_}
-use mathlib.Core.Bool.{Bool, true, false}
+use mathlib.Core.Bool.{true, false}
 use mathlib.Core.List.{List, [], map}
 use lib.ListN.{getD}
 use lib.IntN.{ℤ}
@@ -18,9 +18,9 @@ use Rattle.envelope.specs.declared.AddressText.{AddressText}
 use Rattle.envelope.specs.declared.StreamText.{StreamText}
 use Rattle.envelope.specs.declared.Envelope.{Envelope}
 use Rattle.tokens.specs.Cuts.{before, after}
-use Rattle.tokens.specs.Tokens.{Token, tokens, words, given, value, others}
+use Rattle.tokens.specs.Tokens.{Token, tokens, words, present, value, others}
 use Rattle.tokens.proofs.Lookups.{value-if}
-use Rattle.line_values.specs.Values.{slash, textIf}
+use Rattle.line_values.specs.Values.{slash}
 use Rattle.line_values.proofs.Picks.{picked-good, picked}
 use Rattle.line_groups.specs.Rules.{deflated, payloadGood, singlesGood, fragmentGood, streamGood}
 use Rattle.line_groups.specs.Answers.{lenOf, noPayload, payloadBy, noSingles, singlesBy, noFragment, fragmentBy, noStream, streamBy}
@@ -77,36 +77,36 @@ module _ (t : List ℕ) where
   abbrev singles-all : Singles
   singles-all = record {
     good = true;
-    «has_salt» = given keyS ts;
+    «has_salt» = present keyS ts;
     salt = signed (value keyS ts);
-    «has_ttl» = given keyTtl ts;
+    «has_ttl» = present keyTtl ts;
     ttl = number (value keyTtl ts);
-    «has_chk» = given keyChk ts;
+    «has_chk» = present keyChk ts;
     chk = hexValue (value keyChk ts);
   }
 
   abbrev fragment-all : Fragment
   fragment-all = record {
     good = true;
-    given = given keyMid ts;
+    given = present keyMid ts;
     mid = hexValue (value keyMid ts);
     index = number (before slash (value keyFrag ts));
     total = number (after slash (value keyFrag ts));
   }
 
   abbrev stream-all : Stream
-  stream-all = record { good = true; given = given keySid ts; sn = number (value keySn ts); gt = number (value keyGt ts) }
+  stream-all = record { good = true; given = present keySid ts; sn = number (value keySn ts); gt = number (value keyGt ts) }
 
   module _ (slots : List Place) (e : slots ≡ map (placeFrom 0 (words t)) reservedKeys) where
     module _ (i : ℕ) (l : i < 13) (k : List ℕ) (is-key : getD reservedKeys i [] ≡ k) where
-      g : slotGiven slots i ≡ given k ts
+      g : slotGiven slots i ≡ present k ts
       g = slot-given t k slots e i l is-key
 
       v : slotValue t slots i ≡ value k ts
       v = slot-value t k slots e i l is-key
 
     module _ (p : Payload) (is-p : p ≡ payloadBy (slotValue t slots 0) (slotValue t slots 1) (slotGiven slots 3) (slotValue t slots 3)) where
-      p-by : p ≡ payloadBy (value keyLen ts) (value keyFmt ts) (given keyClen ts) (value keyClen ts)
+      p-by : p ≡ payloadBy (value keyLen ts) (value keyFmt ts) (present keyClen ts) (value keyClen ts)
       unfolding reservedKeys
       p-by = is-p ∙ rw (v 0 (omega arith) keyLen refl, v 1 (omega arith) keyFmt refl, g 3 (omega arith) keyClen refl, v 3 (omega arith) keyClen refl)
 

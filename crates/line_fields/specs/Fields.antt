@@ -9,7 +9,7 @@ use Rattle.names.specs.Reserved.{keyS, keyDst, keyChk, keyTtl, keySrc, keyMid, 
 use Rattle.envelope.specs.Texts.{callText, addressText, streamText, blankEnvelope}
 use Rattle.envelope.specs.declared.Envelope.{Envelope}
 use Rattle.tokens.specs.Cuts.{before, after}
-use Rattle.tokens.specs.Tokens.{Token, tokens, given, value, others}
+use Rattle.tokens.specs.Tokens.{Token, tokens, present, value, others}
 use Rattle.line_values.specs.Values.{slash}
 use Rattle.line_groups.specs.Rules.{deflated, payloadGood, singlesGood, fragmentGood, streamGood}
 use Rattle.line_groups.specs.Answers.{lenOf}
@@ -21,17 +21,17 @@ use Rattle.line_fields.specs.declared.Values.{Values}
 unfoldable pub fieldsOf : ℕ → List Token → Envelope
 fieldsOf id ts = record {
   id = id;
-  «has_salt» = given keyS ts;
+  «has_salt» = present keyS ts;
   salt = signed (value keyS ts);
-  «has_ttl» = given keyTtl ts;
+  «has_ttl» = present keyTtl ts;
   ttl = number (value keyTtl ts);
-  «has_src» = given keySrc ts;
+  «has_src» = present keySrc ts;
   src = callText (value keySrc ts);
-  «has_fragment» = given keyMid ts;
+  «has_fragment» = present keyMid ts;
   mid = hexValue (value keyMid ts);
   index = number (before slash (value keyFrag ts));
   total = number (after slash (value keyFrag ts));
-  «has_stream» = given keySid ts;
+  «has_stream» = present keySid ts;
   sid = streamText (value keySid ts);
   sn = number (value keySn ts);
   gt = number (value keyGt ts);
@@ -52,7 +52,7 @@ goodValues id ts = record {
   good = true;
   len = lenOf ts;
   deflated = deflated ts;
-  «has_chk» = given keyChk ts;
+  «has_chk» = present keyChk ts;
   chk = hexValue (value keyChk ts);
   fields = fieldsOf id ts;
 }

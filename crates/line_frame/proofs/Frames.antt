@@ -10,11 +10,11 @@ use Rattle.text.specs.Hex.{isHex, hexValue}
 use Rattle.line_values.specs.Values.{masterOf}
 use Rattle.line_values.specs.declared.Master.{Master}
 use Rattle.line_values.proofs.Single.{master-good, master-says}
-use Rattle.line_frame.specs.Frame.{ihave, verbWord, idWord, isText, headOf}
+use Rattle.line_frame.specs.Frame.{ihave, verbWord, idWord, isText, lineHead}
 
-module _ (s : List ℕ) (x : Master) (is-x : x ≡ headOf s) where
+module _ (s : List ℕ) (x : Master) (is-x : x ≡ lineHead s) where
   pub head-good : x .good ≡ isText s and (same (verbWord s) ihave and isHex 7 (idWord s))
-  unfolding headOf
+  unfolding lineHead
   head-good = ap (λ (y : Master). y .good) is-x ∙ go (isText s) (same (verbWord s) ihave)
     where
       go : (a b : Bool) → (if a and b then masterOf (idWord s) else record { good = false; id = 0 }) .good ≡ a and (b and isHex 7 (idWord s))
@@ -23,7 +23,7 @@ module _ (s : List ℕ) (x : Master) (is-x : x ≡ headOf s) where
       go false b = refl
 
   pub head-says : x .good ≡ true → x .id ≡ hexValue (idWord s)
-  unfolding headOf
+  unfolding lineHead
   head-says e = go (isText s and same (verbWord s) ihave) is-x
     where
       go : (b : Bool) → x ≡ (if b then masterOf (idWord s) else record { good = false; id = 0 }) → x .id ≡ hexValue (idWord s)

@@ -12,7 +12,7 @@ use Rattle.tokens.specs.Tokens.{keyed, space}
 use Rattle.line_values.specs.Values.{masterOf}
 use Rattle.line_values.specs.declared.Master.{Master}
 
--- `ihave`
+-- `ihave`: i h a v e, byte by byte
 abbrev pub ihave : List ℕ
 ihave = 105 ∷ 104 ∷ 97 ∷ 118 ∷ 101 ∷ []
 
@@ -39,5 +39,5 @@ unfoldable pub framed : List ℕ → Bool
 framed s = same (verbWord s) ihave and (isHex 7 (idWord s) and keyed (restOf s))
 
 -- the id, where the bytes may be a line's and the first word is `ihave`
-unfoldable pub headOf : List ℕ → Master
-headOf s = if isText s and same (verbWord s) ihave then masterOf (idWord s) else record { good = false; id = 0 }
+unfoldable pub lineHead : List ℕ → Master
+lineHead s = if isText s and same (verbWord s) ihave then masterOf (idWord s) else record { good = false; id = 0 }

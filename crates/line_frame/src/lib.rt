@@ -2,7 +2,7 @@
 use line_values::Master;
 ghost use mathlib.Core.Path.{_≡_};
 ghost use Rattle.octets.specs.Words.{every};
-ghost use Rattle.line_frame.specs.Frame.{plain, isText, headOf, restOf};
+ghost use Rattle.line_frame.specs.Frame.{plain, isText, lineHead, restOf};
 
 // Whether no byte is below 0x20 and none is 0x7F.
 fn is_plain(s: &[u8]) -> bool
@@ -36,7 +36,7 @@ fn is_text(s: &[u8]) -> bool
 
 // The id, the second word, where the bytes may be a line's and the first word is `ihave`.
 pub fn read_head(s: &[u8]) -> Master
-    ensures { λ r. ⌜ r ≡ headOf (now (s .entry)) ⌝ }
+    ensures { λ r. ⌜ r ≡ lineHead (now (s .entry)) ⌝ }
 {
     if !is_text(s) {
         return Master { good: false, id: 0 };

@@ -1,36 +1,32 @@
 -- The groups of keys: each early answer, and the values.
 use Prim.Native.Nat.{ℕ}
-use mathlib.Core.Path.{_≡_, refl, ap, sym, _∙_}
-use mathlib.Core.Bool.{Bool, true, false, not, Bool·beq}
+use mathlib.Core.Path.{_≡_, ap, sym, _∙_}
+use mathlib.Core.Bool.{Bool, true, false}
 use mathlib.Core.List.{List}
 use lib.IntN.{ℤ}
-use Rattle.octets.specs.Words.{if_then_else_, _and_}
+use Rattle.octets.specs.Words.{_and_, _or_}
 use Rattle.octets.specs.Bytes.{same}
-use Rattle.octets.proofs.Lists.{same-eq}
-use Rattle.octets.proofs.Tests.{if-yes, if-no, and-both, and-not-left, and-not-right, true-not-false}
+use Rattle.octets.proofs.Tests.{if-yes, if-no, and-both, and-left, and-right, and-not-left, and-not-right}
 use Rattle.text.specs.Digits as digits
-use Rattle.text.specs.Decimal.{isNumber, number, isSigned, signed}
-use Rattle.text.specs.Hex.{isHex, hexValue}
+use Rattle.text.specs.Decimal.{isNumber, number, isSigned}
 use Rattle.tokens.specs.Cuts.{before, after}
-use Rattle.line_values.specs.Values.{slash, isPart, decimalOf, masterOf, partOf, numberIf, saltIf, chkIf, textIf}
+use Rattle.line_values.specs.Values.{decimalOf, masterOf, partOf, numberIf, saltIf, chkIf}
 use Rattle.line_values.specs.declared.Decimal.{Decimal}
 use Rattle.line_values.specs.declared.Salt.{Salt}
 use Rattle.line_values.specs.declared.Chk.{Chk}
 use Rattle.line_values.specs.declared.Master.{Master}
 use Rattle.line_values.specs.declared.Part.{Part}
 use Rattle.line_values.proofs.Single.{decimal-good, decimal-says, master-good, master-says, part-good, part-says, number-if-good, number-if-says, salt-if-good, salt-if-says, chk-if-good, chk-if-says}
+use Rattle.line_words.specs.Standing.{alike, allOrNone, formatRule}
+use Rattle.line_words.proofs.Flags.{same-flag, two-fail}
 use Rattle.line_groups.specs.Rules.{kept, 'p', 'd'}
-use Rattle.line_groups.specs.Answers.{noPayload, plainPayload, payloadBy, noSingles, singlesBy, noFragment, fragmentBy, noStream, streamBy}
+use Rattle.line_groups.specs.Answers.{noPayload, payloadBy, noSingles, singlesBy, noFragment, fragmentBy, noStream, streamBy}
 use Rattle.line_groups.specs.declared.Payload.{Payload}
 use Rattle.line_groups.specs.declared.Singles.{Singles}
 use Rattle.line_groups.specs.declared.Fragment.{Fragment}
 use Rattle.line_groups.specs.declared.Stream.{Stream}
 
 -- ---- `len`, `fmt`, `clen`
-
-not-deflated : (f : List ℕ) → same f 'p' ≡ true → same f 'd' ≡ false
-unfolding same
-not-deflated f e = rw (same-eq f 'p' e)
 
 module _ (len fmt : List ℕ) (has : Bool) (clen : List ℕ) (n : Decimal) (read : n ≡ decimalOf 2147483647 len) where
   pub payload-len : n .good ≡ false → (r : Payload) → r ≡ noPayload → r ≡ payloadBy len fmt has clen
@@ -44,34 +40,29 @@ module _ (len fmt : List ℕ) (has : Bool) (clen : List ℕ) (n : Decimal) (read
     len-says : n .number ≡ number len
     len-says = decimal-says 2147483647 len n read good
 
-    -- `fmt=p`, with `clen` and without it
-    pub payload-plain : true ≡ same fmt 'p' → (r : Payload) → r ≡ plainPayload (n .number) has → r ≡ payloadBy len fmt has clen
-    unfolding payloadBy
-    payload-plain p r q = q ∙ rw (len-good, len-says, sym p, not-deflated fmt (sym p)) (go has)
-      where
-        go : (b : Bool) → plainPayload (number len) b ≡ (if (if b then false else true) and kept b (isNumber 2147483647) clen then record { good = true; len = number len; deflated = false } else noPayload)
-        go true = refl
-        go false = refl
+    -- whether `fmt` and `clen` come together, and `clen`
+    module _ (p : Bool) (is-p : p ≡ same fmt 'p') (d : Bool) (is-d : d ≡ same fmt 'd') (f : Bool) (is-f : f ≡ formatRule p d has) where
+      format-is : formatRule (same fmt 'p') (same fmt 'd') has ≡ f
+      format-is = ap (λ (b : Bool). formatRule b (same fmt 'd') has) (sym is-p) ∙ ap (λ (b : Bool). formatRule p b has) (sym is-d) ∙ sym is-f
 
-    -- `fmt=d`, or neither
-    module _ (not-p : false ≡ same fmt 'p') where
-      pub payload-format : false ≡ same fmt 'd' → (r : Payload) → r ≡ noPayload → r ≡ payloadBy len fmt has clen
+      pub payload-format : f ≡ false → (r : Payload) → r ≡ noPayload → r ≡ payloadBy len fmt has clen
       unfolding payloadBy
-      payload-format e r q = q ∙ rw (len-good, sym not-p, sym e)
+      payload-format e r q =
+          q ∙ sym (if-no _ _ _ (and-not-right (isNumber 2147483647 len) _ (two-fail (same fmt 'p' or same fmt 'd') (alike has (same fmt 'd')) (kept has (isNumber 2147483647) clen) (format-is ∙ e))))
 
-      module _ (is-d : true ≡ same fmt 'd') where
-        pub payload-no-clen : has ≡ false → (r : Payload) → r ≡ noPayload → r ≡ payloadBy len fmt has clen
+      module _ (e : f ≡ true) (m : Decimal) (read-m : m ≡ numberIf 2147483647 has clen) where
+        pub payload-clen : m .good ≡ false → (r : Payload) → r ≡ noPayload → r ≡ payloadBy len fmt has clen
         unfolding payloadBy
-        payload-no-clen g r q = q ∙ rw (len-good, sym not-p, sym is-d, g)
+        payload-clen g r q =
+            q ∙ sym (if-no _ _ _ (and-not-right (isNumber 2147483647 len) _ (and-not-right (same fmt 'p' or same fmt 'd') _ (and-not-right (alike has (same fmt 'd')) _ (sym (number-if-good has clen 2147483647 m read-m) ∙ g)))))
 
-        module _ (g : has ≡ true) (m : Decimal) (read-m : m ≡ decimalOf 2147483647 clen) where
-          pub payload-clen : m .good ≡ false → (r : Payload) → r ≡ noPayload → r ≡ payloadBy len fmt has clen
-          unfolding payloadBy
-          payload-clen e r q = q ∙ rw (len-good, sym not-p, sym is-d, g, sym (decimal-good 2147483647 clen m read-m) ∙ e)
-
-          pub payload-deflated : m .good ≡ true → record { good = true; len = n .number; deflated = true } ≡ payloadBy len fmt has clen
-          unfolding payloadBy
-          payload-deflated e = rw (len-good, len-says, sym not-p, sym is-d, g, sym (decimal-good 2147483647 clen m read-m) ∙ e)
+        pub payload-all : m .good ≡ true → record { good = true; len = n .number; deflated = d } ≡ payloadBy len fmt has clen
+        unfolding payloadBy
+        payload-all g =
+            let both = format-is ∙ e in
+            rw (len-says, is-d)
+            (sym (if-yes _ _ _ (and-both (isNumber 2147483647 len) _ len-good (and-both (same fmt 'p' or same fmt 'd') _ (and-left (same fmt 'p' or same fmt 'd') (alike has (same fmt 'd')) both)
+            (and-both (alike has (same fmt 'd')) _ (and-right (same fmt 'p' or same fmt 'd') (alike has (same fmt 'd')) both) (sym (number-if-good has clen 2147483647 m read-m) ∙ g))))))
 
 -- ---- `s`, `ttl` and `chk`
 
@@ -104,17 +95,20 @@ module _ (hasS : Bool) (s : List ℕ) (hasTtl : Bool) (ttl : List ℕ) (hasChk :
 -- ---- `mid` and `frag`
 
 module _ (mid frag : List ℕ) where
-  pub fragment-none : (hasMid hasFrag : Bool) → hasMid ≡ false → (r : Fragment) → r ≡ noFragment (not hasFrag) → r ≡ fragmentBy hasMid mid hasFrag frag
-  unfolding fragmentBy before after digits.value
-  fragment-none true hasFrag e r q = true-not-false true refl e
-  fragment-none false true e r q = q
-  fragment-none false false e r q = q
+  module _ (hasMid hasFrag r : Bool) (is-r : r ≡ alike hasMid hasFrag) where
+    pub fragment-lone : r ≡ false → (x : Fragment) → x ≡ noFragment false → x ≡ fragmentBy hasMid mid hasFrag frag
+    unfolding fragmentBy
+    fragment-lone e x q = q ∙ sym (if-no _ _ _ (and-not-left _ _ (sym is-r ∙ e)))
+
+    module _ (e : r ≡ true) where
+      pub frag-too : hasMid ≡ true → hasFrag ≡ true
+      frag-too m = same-flag hasMid hasFrag (sym is-r ∙ e) ∙ m
+
+      pub fragment-none : hasMid ≡ false → (x : Fragment) → x ≡ noFragment true → x ≡ fragmentBy hasMid mid hasFrag frag
+      unfolding fragmentBy before after digits.value
+      fragment-none m x q = q ∙ rw (same-flag hasMid hasFrag (sym is-r ∙ e), m)
 
   module _ (hasMid hasFrag : Bool) (m : hasMid ≡ true) where
-    pub fragment-lone : hasFrag ≡ false → (r : Fragment) → r ≡ noFragment false → r ≡ fragmentBy hasMid mid hasFrag frag
-    unfolding fragmentBy
-    fragment-lone g r q = q ∙ rw (m, g)
-
     module _ (g : hasFrag ≡ true) (x : Master) (read-x : x ≡ masterOf mid) where
       pub fragment-mid : x .good ≡ false → (r : Fragment) → r ≡ noFragment false → r ≡ fragmentBy hasMid mid hasFrag frag
       unfolding fragmentBy
@@ -133,36 +127,14 @@ module _ (mid frag : List ℕ) where
 
 -- ---- `sid`, `sn` and `gt`
 
--- two flags that the code finds alike
-pub told-alike : (a b : Bool) → not (Bool·beq a b) ≡ false → a ≡ b
-told-alike true true e = refl
-told-alike true false e = e
-told-alike false true e = sym e
-told-alike false false e = refl
-
 module _ (hasSid hasSn : Bool) (sn : List ℕ) (hasGt : Bool) (gt : List ℕ) where
   abbrev answer : Stream
   answer = streamBy hasSid hasSn sn hasGt gt
 
-  pub stream-sn-alone : not (Bool·beq hasSn hasSid) ≡ true → (r : Stream) → r ≡ noStream false → r ≡ answer
+  pub stream-apart : (t : Bool) → t ≡ allOrNone hasSid hasSn hasGt → t ≡ false → (r : Stream) → r ≡ noStream false → r ≡ answer
   unfolding streamBy
-  stream-sn-alone d r q = q ∙ go hasSid hasSn hasGt d
-    where
-      go : (a b c : Bool) → not (Bool·beq b a) ≡ true → noStream false ≡ streamBy a b sn c gt
-      go true true c d = true-not-false false d refl
-      go true false c d = refl
-      go false true c d = refl
-      go false false c d = true-not-false false d refl
-
-  pub stream-gt-alone : hasSn ≡ hasSid → not (Bool·beq hasGt hasSid) ≡ true → (r : Stream) → r ≡ noStream false → r ≡ answer
-  unfolding streamBy
-  stream-gt-alone e d r q = q ∙ rw e (go hasSid hasGt d)
-    where
-      go : (a c : Bool) → not (Bool·beq c a) ≡ true → noStream false ≡ streamBy a a sn c gt
-      go true true d = true-not-false false d refl
-      go true false d = refl
-      go false true d = refl
-      go false false d = true-not-false false d refl
+  stream-apart t is-t e r q =
+      q ∙ sym (if-no _ _ _ (two-fail (alike hasSid hasSn) (alike hasSid hasGt) (kept hasSn (isNumber 4294967295) sn and kept hasGt (isNumber 4294967295) gt) (sym is-t ∙ e)))
 
   module _ (a : hasSn ≡ hasSid) (b : hasGt ≡ hasSid) where
     pub stream-none : hasSid ≡ false → (r : Stream) → r ≡ noStream true → r ≡ answer

@@ -38,10 +38,6 @@ unfoldable pub payloadBy : List ℕ → List ℕ → Bool → List ℕ → Paylo
 payloadBy len fmt hasClen clen =
     if payloadRule len fmt hasClen clen then record { good = true; len = number len; deflated = same fmt 'd' } else noPayload
 
--- with `fmt=p` there may be no `clen`
-abbrev pub plainPayload : ℕ → Bool → Payload
-plainPayload len clen = if clen then noPayload else record { good = true; len = len; deflated = false }
-
 -- `s`, `ttl` and `chk`
 unfoldable pub singlesBy : Bool → List ℕ → Bool → List ℕ → Bool → List ℕ → Singles
 singlesBy hasS s hasTtl ttl hasChk chk =

@@ -3,24 +3,21 @@
 use Prim.Native.Nat.{ℕ}
 use mathlib.Core.Bool.{Bool, true}
 use mathlib.Core.List.{List, [], _∷_}
-use Rattle.octets.specs.Words.{if_then_else_, _and_, _or_, no}
+use Rattle.octets.specs.Words.{if_then_else_, _and_, _or_}
 use Rattle.octets.specs.Bytes.{same}
 use Rattle.text.specs.Decimal.{isNumber, isSigned}
 use Rattle.text.specs.Hex.{isHex}
 use Rattle.names.specs.Reserved.{keyLen, keyFmt, keyS, keyClen, keyChk, keyTtl, keyMid, keyFrag, keySid, keySn, keyGt}
-use Rattle.tokens.specs.Tokens.{Token, given, value}
+use Rattle.tokens.specs.Tokens.{Token, present, value}
 use Rattle.line_values.specs.Values.{isPart}
-
--- both, or neither
-abbrev pub alike : Bool → Bool → Bool
-alike a b = if a then b else no b
+pub use Rattle.line_words.specs.Standing.{alike}
 
 -- a value that may be missing: where it is there, it keeps a rule
 abbrev pub kept : Bool → (List ℕ → Bool) → List ℕ → Bool
 kept has rule v = if has then rule v else true
 
 abbrev pub optional : List ℕ → (List ℕ → Bool) → List Token → Bool
-optional k rule ts = kept (given k ts) rule (value k ts)
+optional k rule ts = kept (present k ts) rule (value k ts)
 
 -- `p`, and `d`
 abbrev pub 'p' : List ℕ
@@ -60,13 +57,13 @@ abbrev pub deflated : List Token → Bool
 deflated ts = same (value keyFmt ts) 'd'
 
 unfoldable pub payloadGood : List Token → Bool
-payloadGood ts = payloadRule (value keyLen ts) (value keyFmt ts) (given keyClen ts) (value keyClen ts)
+payloadGood ts = payloadRule (value keyLen ts) (value keyFmt ts) (present keyClen ts) (value keyClen ts)
 
 unfoldable pub singlesGood : List Token → Bool
-singlesGood ts = singlesRule (given keyS ts) (value keyS ts) (given keyTtl ts) (value keyTtl ts) (given keyChk ts) (value keyChk ts)
+singlesGood ts = singlesRule (present keyS ts) (value keyS ts) (present keyTtl ts) (value keyTtl ts) (present keyChk ts) (value keyChk ts)
 
 unfoldable pub fragmentGood : List Token → Bool
-fragmentGood ts = fragmentRule (given keyMid ts) (value keyMid ts) (given keyFrag ts) (value keyFrag ts)
+fragmentGood ts = fragmentRule (present keyMid ts) (value keyMid ts) (present keyFrag ts) (value keyFrag ts)
 
 unfoldable pub streamGood : List Token → Bool
-streamGood ts = streamRule (given keySid ts) (given keySn ts) (value keySn ts) (given keyGt ts) (value keyGt ts)
+streamGood ts = streamRule (present keySid ts) (present keySn ts) (value keySn ts) (present keyGt ts) (value keyGt ts)

@@ -4,7 +4,7 @@ use crate::Payload;
 use crate::Singles;
 use crate::Stream;
 ghost use mathlib.Core.Path.{_≡_};
-ghost use Rattle.line_groups.specs.Answers.{noPayload, plainPayload, noSingles, noFragment, noStream};
+ghost use Rattle.line_groups.specs.Answers.{noPayload, noSingles, noFragment, noStream};
 
 pub(crate) fn no_payload() -> Payload
     ensures { λ r. ⌜ r ≡ noPayload ⌝ }
@@ -12,20 +12,6 @@ pub(crate) fn no_payload() -> Payload
     Payload {
         good: false,
         len: 0,
-        deflated: false,
-    }
-}
-
-// The answer for `fmt=p`, where there may be no `clen`.
-pub(crate) fn plain(len: u32, clen: bool) -> Payload
-    ensures { λ r. ⌜ r ≡ plainPayload len clen ⌝ }
-{
-    if clen {
-        return no_payload();
-    }
-    Payload {
-        good: true,
-        len,
         deflated: false,
     }
 }

@@ -49,24 +49,19 @@ pub fn read_payload(len: &[u8], fmt: &[u8], has_clen: bool, clen: &[u8]) -> Payl
     if !n.good {
         return blanks::no_payload();
     }
-    let number = n.number as u32;
-    if octets::equal(fmt, b"p") {
-        return blanks::plain(number, has_clen);
-    }
-    if !octets::equal(fmt, b"d") {
+    let plain = octets::equal(fmt, b"p");
+    let deflated = octets::equal(fmt, b"d");
+    if !line_words::format_rule(plain, deflated, has_clen) {
         return blanks::no_payload();
     }
-    if !has_clen {
-        return blanks::no_payload();
-    }
-    let m = line_values::read_decimal(clen, 2147483647);
+    let m = line_values::number_if(has_clen, clen, 2147483647);
     if !m.good {
         return blanks::no_payload();
     }
     Payload {
         good: true,
-        len: number,
-        deflated: true,
+        len: n.number as u32,
+        deflated,
     }
 }
 
@@ -108,11 +103,11 @@ pub fn read_singles(
 pub fn read_fragment(has_mid: bool, mid: &[u8], has_frag: bool, frag: &[u8]) -> Fragment
     ensures { λ r. ⌜ r ≡ fragmentBy «has_mid» (now (mid .entry)) «has_frag» (now (frag .entry)) ⌝ }
 {
-    if !has_mid {
-        return blanks::no_fragment(!has_frag);
-    }
-    if !has_frag {
+    if !line_words::both_or_neither(has_mid, has_frag) {
         return blanks::no_fragment(false);
+    }
+    if !has_mid {
+        return blanks::no_fragment(true);
     }
     let m = line_values::read_master(mid);
     if !m.good {
@@ -135,10 +130,7 @@ pub fn read_fragment(has_mid: bool, mid: &[u8], has_frag: bool, frag: &[u8]) -> 
 pub fn read_stream(has_sid: bool, has_sn: bool, sn: &[u8], has_gt: bool, gt: &[u8]) -> Stream
     ensures { λ r. ⌜ r ≡ streamBy «has_sid» «has_sn» (now (sn .entry)) «has_gt» (now (gt .entry)) ⌝ }
 {
-    if has_sn != has_sid {
-        return blanks::no_stream(false);
-    }
-    if has_gt != has_sid {
+    if !line_words::all_or_none(has_sid, has_sn, has_gt) {
         return blanks::no_stream(false);
     }
     if !has_sid {

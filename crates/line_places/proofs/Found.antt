@@ -1,5 +1,5 @@
 -- What stands at the place of a key is the key's value, and its flag says whether the key is there.
-use Prim.Native.Nat.{ℕ, zero, suc, _+_, _-_, _≤_, _<_}
+use Prim.Native.Nat.{ℕ, zero, suc, _+_, _-_, _<_}
 use mathlib.Core.Path.{_≡_, refl, ap, sym, _∙_}
 use mathlib.Core.Bool.{Bool, true, false}
 use mathlib.Core.List.{List, [], _∷_, map}
@@ -12,7 +12,7 @@ use Rattle.octets.specs.Bytes.{same}
 use Rattle.names.specs.Reserved.{reservedKeys}
 use Rattle.names.proofs.Reserved.{counts}
 use Rattle.tokens.specs.Cuts.{before, after}
-use Rattle.tokens.specs.Tokens.{tokenOf, words, tokens, given, value, space, equals}
+use Rattle.tokens.specs.Tokens.{tokenOf, words, tokens, present, value, space, equals}
 use Rattle.tokens.specs.Steps.{wordsFrom, wordAt}
 use Rattle.tokens.proofs.Parts.{before-take, after-drop}
 use Rattle.tokens.proofs.Words.{words-start, words-next, words-end}
@@ -20,13 +20,13 @@ use Rattle.line_places.specs.Places.{noPlace, placeFrom, valueAt}
 use Rattle.line_places.specs.declared.Place.{Place}
 use Rattle.line_places.proofs.Walk.{map-at}
 
-pub place-given : (at : ℕ) (ws : List (List ℕ)) (k : List ℕ) → placeFrom at ws k .given ≡ given k (map tokenOf ws)
-unfolding placeFrom given
+pub place-given : (at : ℕ) (ws : List (List ℕ)) (k : List ℕ) → placeFrom at ws k .given ≡ present k (map tokenOf ws)
+unfolding placeFrom present
 place-given at [] k = refl
 place-given at (w ∷ ws) k = go (same k (before equals w)) (place-given (at + length w + 1) ws k)
   where
-    go : (b : Bool) → placeFrom (at + length w + 1) ws k .given ≡ given k (map tokenOf ws)
-        → (if b then record { given = true; start = at + length (before equals w) + 1; len = length (after equals w) } else placeFrom (at + length w + 1) ws k) .given ≡ (b or given k (map tokenOf ws))
+    go : (b : Bool) → placeFrom (at + length w + 1) ws k .given ≡ present k (map tokenOf ws)
+        → (if b then record { given = true; start = at + length (before equals w) + 1; len = length (after equals w) } else placeFrom (at + length w + 1) ws k) .given ≡ (b or present k (map tokenOf ws))
     go true h = refl
     go false h = h
 
@@ -86,7 +86,7 @@ module _ (t k : List ℕ) where
         ∙ map-at (placeFrom 0 (words t)) reservedKeys i noPlace [] (omega (arith, counts .1))
         ∙ ap (placeFrom 0 (words t)) is-key
 
-    pub slot-given : getD slots i noPlace .given ≡ given k (tokens t)
+    pub slot-given : getD slots i noPlace .given ≡ present k (tokens t)
     slot-given = ap (λ (p : Place). p .given) slot-is ∙ place-given 0 (words t) k
 
     pub slot-value : valueAt t (getD slots i noPlace) ≡ value k (tokens t)

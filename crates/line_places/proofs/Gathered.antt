@@ -15,7 +15,7 @@ use Rattle.headers.specs.declared.Header.{Header}
 use Rattle.envelope.specs.Texts.{headerText, noHeaders, withHeader}
 use Rattle.tokens.specs.Tokens.{Token, others}
 use Rattle.line_places.specs.Headers.{shortValue, headersFit, headerOf, headersOf}
-use Rattle.line_places.specs.Steps.{Gathered, fits, unfit, pushOf, gather, gatheredOf}
+use Rattle.line_places.specs.Steps.{Gathered, fitting, unfit, pushOf, gather, gatheredOf}
 
 abbrev blank : Header
 blank = headerText [] []
@@ -53,7 +53,7 @@ gather-stays r (t ∷ ts) e = if-no _ _ _ e
 
 -- the headers of l are there: those among ts come behind them, where they fit
 abbrev whole : List Token → List Token → Gathered
-whole l os = if length (l ++ os) ≤? 8 and every shortValue os then fits (headersOf (l ++ os)) else unfit
+whole l os = if length (l ++ os) ≤? 8 and every shortValue os then fitting (headersOf (l ++ os)) else unfit
 
 module _ (l : List Token) (t : Token) (ts : List Token) where
   full : 8 ≤ length l → whole l (t ∷ others ts) ≡ unfit
@@ -66,31 +66,31 @@ module _ (l : List Token) (t : Token) (ts : List Token) where
   short f = rw (append-assoc l (t ∷ []) (others ts), f)
 
   abbrev Next : Type 0
-  Next = length l < 8 → gather (fits (headersOf (l ++ (t ∷ [])))) ts ≡ whole (l ++ (t ∷ [])) (others ts)
+  Next = length l < 8 → gather (fitting (headersOf (l ++ (t ∷ [])))) ts ≡ whole (l ++ (t ∷ [])) (others ts)
 
   no-room : length l <? 8 and shortValue t ≡ false → whole l (t ∷ others ts) ≡ unfit
-      → gather (if length l <? 8 and shortValue t then fits (withHeader (headersOf l) (headerOf t)) else unfit) ts ≡ whole l (t ∷ others ts)
+      → gather (if length l <? 8 and shortValue t then fitting (withHeader (headersOf l) (headerOf t)) else unfit) ts ≡ whole l (t ∷ others ts)
   no-room e f = ap (λ (r : Gathered). gather r ts) (if-no _ _ _ e) ∙ gather-stays unfit ts refl ∙ sym f
 
   at-room : (b c : Bool) → (length l <? 8) ≡ b → shortValue t ≡ c → Next
-      → gather (if length l <? 8 and shortValue t then fits (withHeader (headersOf l) (headerOf t)) else unfit) ts ≡ whole l (t ∷ others ts)
+      → gather (if length l <? 8 and shortValue t then fitting (withHeader (headersOf l) (headerOf t)) else unfit) ts ≡ whole l (t ∷ others ts)
   at-room true true e f next =
       let k = ltb-true (length l) 8 e in
-      ap (λ (r : Gathered). gather r ts) (if-yes _ _ _ (and-both _ _ e f) ∙ ap fits (one-more l t k)) ∙ next k ∙ short f
+      ap (λ (r : Gathered). gather r ts) (if-yes _ _ _ (and-both _ _ e f) ∙ ap fitting (one-more l t k)) ∙ next k ∙ short f
   at-room true false e f next = no-room (and-not-right (length l <? 8) _ f) (long f)
   at-room false c e f next = no-room (and-not-left _ _ e) (full (ltb-false (length l) 8 e))
 
-  at-key : (b : Bool) → reserved (t .key) ≡ b → gather (fits (headersOf l)) ts ≡ whole l (others ts) → Next → gather (fits (headersOf l)) (t ∷ ts) ≡ whole l (others (t ∷ ts))
+  at-key : (b : Bool) → reserved (t .key) ≡ b → gather (fitting (headersOf l)) ts ≡ whole l (others ts) → Next → gather (fitting (headersOf l)) (t ∷ ts) ≡ whole l (others (t ∷ ts))
   unfolding gather others pushOf headersOf
   at-key true e same next = rw e same
   at-key false e same next = rw e (at-room (length l <? 8) (shortValue t) refl refl next)
 
-gather-whole : (l ts : List Token) → length l ≤ 8 → gather (fits (headersOf l)) ts ≡ whole l (others ts)
+gather-whole : (l ts : List Token) → length l ≤ 8 → gather (fitting (headersOf l)) ts ≡ whole l (others ts)
 unfolding gather others
 gather-whole l [] h = rw (append-nil l) (sym (if-yes _ _ _ (and-both _ _ (le-leb (length l) 8 h) refl)))
 gather-whole l (t ∷ ts) h =
     at-key l t ts (reserved (t .key)) refl (gather-whole l ts h) (λ k. gather-whole (l ++ (t ∷ [])) ts (omega (arith, length-append l (t ∷ []))))
 
-pub all-gathered : (ts : List Token) → gather (fits noHeaders) ts ≡ gatheredOf ts
+pub all-gathered : (ts : List Token) → gather (fitting noHeaders) ts ≡ gatheredOf ts
 unfolding gatheredOf headersFit headersOf
 all-gathered ts = gather-whole [] ts (omega arith)

@@ -2,7 +2,7 @@
 use Prim.Native.Nat.{ℕ, _+_, _-_, _≤_, _<_}
 use mathlib.Core.Path.{_≡_, refl, ap, sym, _∙_}
 use mathlib.Core.Bool.{Bool, true, false}
-use mathlib.Core.List.{List, [], _∷_}
+use mathlib.Core.List.{List, _∷_}
 use native.Mathlib.Omega.{arith}
 use lib.ListN.{length, getD, set, take, drop, replicate}
 use borrow.Author.Tests.{ltb-true, lt-ltb, le-ltb, eqb-true, eqb-false, lt-leb}
@@ -15,10 +15,10 @@ use Rattle.headers.specs.declared.Headers.{Headers}
 use Rattle.envelope.specs.Texts.{headerText, noHeaders, withHeader}
 use Rattle.tokens.specs.Cuts.{has, before, after}
 use Rattle.tokens.specs.Tokens.{words, space, equals}
-use Rattle.tokens.specs.Steps.{wordsFrom, wordAt}
+use Rattle.tokens.specs.Steps.{wordsFrom}
 use Rattle.tokens.proofs.Parts.{has-before, part-before, part-after, before-short}
 use Rattle.tokens.proofs.Words.{word-is, words-start, words-next, words-end}
-use Rattle.line_places.specs.Places.{noPlace, noPlaces, placesOf}
+use Rattle.line_places.specs.Places.{noPlace, placeAt, noPlaces, placesOf}
 use Rattle.line_places.specs.declared.Place.{Place}
 use Rattle.line_places.specs.declared.Places.{Places}
 use Rattle.line_places.proofs.Walk.{Walked, walk-start, bare-word, chk-before, key-again, header-unfit, walk-header, walk-reserved, bad-word, bad-once, bad-last, bad-headers, walk-end}
@@ -80,10 +80,10 @@ module _ (t : List ℕ) (slots : List Place) (h : Headers) (at : ℕ) (r : Walke
       pub turn-again : getD slots k noPlace .given ≡ true → (a : Places) → a ≡ noPlaces → a ≡ placesOf t
       turn-again e = bad-once t (key-again (words t) slots h at w rest here is-reserved (ap (λ (i : ℕ). getD slots i noPlace .given) (sym place-is) ∙ e))
 
-      pub turn-kept : getD slots k noPlace .given ≡ false → (v : List ℕ) → v ≡ take (length w - (n + 1)) (drop (n + 1) w)
-          → Walked (words t) (set slots k (record { given = true; start = at + n + 1; len = length v })) h (at + length w + 1) rest
-      turn-kept e v is-v =
-          rw (is-n, place-is, is-v ∙ part-after equals w n is-n)
+      pub turn-kept : getD slots k noPlace .given ≡ false → (v : List ℕ) → v ≡ take (length w - (n + 1)) (drop (n + 1) w) → (p : Place) → p ≡ placeAt (at + n + 1) (length v)
+          → Walked (words t) (set slots k p) h (at + length w + 1) rest
+      turn-kept e v is-v p is-p =
+          rw (is-p, is-n, place-is, is-v ∙ part-after equals w n is-n)
           (walk-reserved (words t) slots h at w rest here (cut (both .1)) (both .0) is-reserved (ap (λ (i : ℕ). getD slots i noPlace .given) (sym place-is) ∙ e))
 
     module _ (m : 13 ≤ k) (v : List ℕ) (is-v : v ≡ take (length w - (n + 1)) (drop (n + 1) w)) (f : Bool) (is-f : f ≡ h .count <? 8 and length v ≤? 128) where

@@ -6,7 +6,7 @@ use mathlib.Core.List.{List, [], _∷_, map}
 use native.Mathlib.Omega.{arith}
 use lib.ListN.{length, getD, set, replicate, length-set, length-map, length-replicate, getD-replicate, List·getD-eq-default}
 use lib.Seq.{getD-set-same, getD-set-other, ext-getD}
-use borrow.Author.Tests.{ltb-true, ltb-false, lt-ltb, le-ltb, eqb-true, eqb-false}
+use borrow.Author.Tests.{ltb-true, ltb-false, eqb-true, eqb-false}
 use Rattle.octets.specs.Words.{if_then_else_, _and_, _or_, no, _=?_, _<?_, every, some}
 use Rattle.octets.specs.Bytes.{same}
 use Rattle.octets.proofs.Lists.{same-eq, same-refl}
@@ -17,10 +17,10 @@ use Rattle.headers.specs.Keys.{allDiffer}
 use Rattle.headers.specs.declared.Headers.{Headers}
 use Rattle.envelope.specs.Texts.{noHeaders, withHeader}
 use Rattle.tokens.specs.Cuts.{has, before, after}
-use Rattle.tokens.specs.Tokens.{Token, tokenOf, words, tokens, keys, others, none, lastOnly, equals}
+use Rattle.tokens.specs.Tokens.{tokenOf, words, tokens, keys, others, none, lastOnly, equals}
 use Rattle.line_places.specs.Headers.{shortValue, headerOf, headersFit, headersOf}
 use Rattle.line_places.specs.Places.{noPlace, placeFrom, reservedAmong, placesGood, noPlaces, placesOf}
-use Rattle.line_places.specs.Steps.{Gathered, fits, unfit, pushOf, gather, gatheredOf}
+use Rattle.line_places.specs.Steps.{Gathered, fitting, unfit, pushOf, gather, gatheredOf}
 use Rattle.line_places.specs.declared.Place.{Place}
 use Rattle.line_places.specs.declared.Places.{Places}
 use Rattle.line_places.proofs.Gathered.{gather-stays, all-gathered}
@@ -54,7 +54,7 @@ pub record Walked (all : List (List ℕ)) (slots : List Place) (h : Headers) (at
   pub assigned : every (has equals) all ≡ every (has equals) ws
   pub once : allDiffer (reservedAmong (keysIn all)) ≡ fresh slots (reservedAmong (keysIn ws))
   pub last : lastOnly keyChk (keysIn all) ≡ lastIn (getD slots 5 noPlace .given) (keysIn ws)
-  pub heads : gatheredOf (map tokenOf all) ≡ gather (fits h) (map tokenOf ws)
+  pub heads : gatheredOf (map tokenOf all) ≡ gather (fitting h) (map tokenOf ws)
 
 -- ---- the start
 
@@ -100,11 +100,11 @@ unfolding lastOnly
 none-last [] = refl
 none-last (k ∷ ks) = refl
 
-unfit-told : (b : Bool) (h : Headers) → (if b then fits h else unfit) ≡ unfit → b ≡ false
+unfit-told : (b : Bool) (h : Headers) → (if b then fitting h else unfit) ≡ unfit → b ≡ false
 unfit-told true h e = ap (λ (x : Gathered). x .fit) e
 unfit-told false h e = refl
 
-fit-told : (b : Bool) (g h : Headers) → (if b then fits g else unfit) ≡ fits h → (b ≡ true) × (g ≡ h)
+fit-told : (b : Bool) (g h : Headers) → (if b then fitting g else unfit) ≡ fitting h → (b ≡ true) × (g ≡ h)
 fit-told true g h e = (refl, ap (λ (x : Gathered). x .headers) e)
 fit-told false g h e = true-not-false false (ap (λ (x : Gathered). x .fit) e) refl
 
@@ -165,7 +165,7 @@ module _ (all : List (List ℕ)) (slots : List Place) (h : Headers) (at : ℕ) (
           assigned = assigned-past;
           once = r .once ∙ ap (fresh slots) (if-no _ _ _ e);
           last = r .last ∙ rw c (last-past (λ q. omega arith));
-          heads = r .heads ∙ ap (λ (x : Gathered). gather x (map tokenOf ws)) (if-no _ _ _ e ∙ if-yes _ _ _ f ∙ ap fits (sym is-g));
+          heads = r .heads ∙ ap (λ (x : Gathered). gather x (map tokenOf ws)) (if-no _ _ _ e ∙ if-yes _ _ _ f ∙ ap fitting (sym is-g));
         }
 
     -- a reserved key more

@@ -17,12 +17,15 @@ use Rattle.line_places.specs.declared.Places.{Places}
 abbrev pub noPlace : Place
 noPlace = record { given = false; start = 0; len = 0 }
 
+abbrev pub placeAt : ℕ → ℕ → Place
+placeAt start len = record { given = true; start = start; len = len }
+
 -- the place of a key's value among words of which the first begins at the place `at`: behind the `=` of the first word with the key
 unfoldable pub placeFrom : ℕ → List (List ℕ) → List ℕ → Place
 placeFrom at [] k = noPlace
 placeFrom at (w ∷ ws) k =
     if same k (before equals w)
-    then record { given = true; start = at + length (before equals w) + 1; len = length (after equals w) }
+    then placeAt (at + length (before equals w) + 1) (length (after equals w))
     else placeFrom (at + length w + 1) ws k
 
 -- what stands at a place of a text

@@ -13,8 +13,8 @@ pub record Gathered : Type 0 where
   pub fit : Bool
   pub headers : Headers
 
-abbrev pub fits : Headers → Gathered
-fits h = record { fit = true; headers = h }
+abbrev pub fitting : Headers → Gathered
+fitting h = record { fit = true; headers = h }
 
 abbrev pub unfit : Gathered
 unfit = record { fit = false; headers = noHeaders }
@@ -22,8 +22,8 @@ unfit = record { fit = false; headers = noHeaders }
 -- the headers, and one token more
 unfoldable pub pushOf : Headers → Token → Gathered
 pushOf h t =
-    if reserved (t .key) then fits h
-    else if h .count <? 8 and shortValue t then fits (withHeader h (headerOf t))
+    if reserved (t .key) then fitting h
+    else if h .count <? 8 and shortValue t then fitting (withHeader h (headerOf t))
     else unfit
 
 -- the headers, and all tokens; one that does not fit ends it
@@ -33,4 +33,4 @@ gather r (t ∷ ts) = if r .fit then gather (pushOf (r .headers) t) ts else r
 
 -- what they come to: the tokens whose keys are not reserved, where they fit
 unfoldable pub gatheredOf : List Token → Gathered
-gatheredOf ts = if headersFit ts then fits (headersOf (others ts)) else unfit
+gatheredOf ts = if headersFit ts then fitting (headersOf (others ts)) else unfit

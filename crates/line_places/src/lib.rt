@@ -2,8 +2,7 @@
 // the reserved keys: the place of its value is kept there, and every other key is a header.
 use headers::Headers;
 ghost use mathlib.Core.Path.{_≡_};
-ghost use Rattle.octets.specs.Words.{_and_, no, _<?_, _≤?_, _=?_};
-ghost use Rattle.line_places.specs.Places.{noPlace, noPlaces, placesOf, valueAt};
+ghost use Rattle.line_places.specs.Places.{noPlace, placeAt, noPlaces, placesOf, valueAt};
 
 // Where the value of a key stands in the text, and whether the key is there at all.
 pub struct Place {
@@ -29,6 +28,16 @@ fn no_place() -> Place
     }
 }
 
+fn place_at(start: usize, len: usize) -> Place
+    ensures { λ r. ⌜ r ≡ placeAt start len ⌝ }
+{
+    Place {
+        given: true,
+        start,
+        len,
+    }
+}
+
 // The answer where the rules do not hold.
 fn malformed() -> Places
     ensures { λ r. ⌜ r ≡ noPlaces ⌝ }
@@ -42,29 +51,6 @@ fn malformed() -> Places
     }
 }
 
-// Whether a word may stand behind the others: `chk` was not among them, and the word has its `=`.
-fn may_stand(chk: Place, key: usize, word: usize) -> bool
-    ensures { λ r. ⌜ r ≡ no (chk .given) and no (key =? word) ⌝ }
-{
-    if chk.given {
-        return false;
-    }
-    if key == word {
-        return false;
-    }
-    true
-}
-
-// Whether one header more fits behind `count` others.
-fn takes(count: usize, value: usize) -> bool
-    ensures { λ r. ⌜ r ≡ count <? 8 and value ≤? 128 ⌝ }
-{
-    if 8 <= count {
-        return false;
-    }
-    value <= 128
-}
-
 // The places of all values, where the rules of the words hold.
 pub fn read_places(t: &[u8]) -> Places
     ensures { λ r. ⌜ r ≡ placesOf (now (t .entry)) ⌝ }
@@ -76,7 +62,8 @@ pub fn read_places(t: &[u8]) -> Places
     while at <= t.len() {
         let word = tokens::before_byte(&t[at..], b' ');
         let n = tokens::bytes_before(word, b'=');
-        if !may_stand(slots[names::CHK], n, word.len()) {
+        let chk = slots[names::CHK];
+        if !line_words::may_stand(chk.given, n, word.len()) {
             return malformed();
         }
         let start = at + n + 1;
@@ -88,19 +75,14 @@ pub fn read_places(t: &[u8]) -> Places
             if p.given {
                 return malformed();
             }
-            slots[k] = Place {
-                given: true,
-                start,
-                len: value.len(),
-            };
+            slots[k] = place_at(start, value.len());
             continue;
         }
         let m = headers.count;
-        if !takes(m, value.len()) {
+        if !line_words::header_fits(m, value.len()) {
             return malformed();
         }
-        let x = envelope::header_text(&word[0..n], value);
-        headers.items[m] = x;
+        headers.items[m] = envelope::header_text(&word[0..n], value);
         headers.count = m + 1;
     }
     Places {

@@ -23,7 +23,7 @@ use Rattle.envelope.specs.Texts.{fitted, padded, callText, addressText, streamT
 use Rattle.envelope.specs.Rules.{envelope}
 use Rattle.envelope.specs.Tidy.{tidy, tidyHeader, tidyHeaders}
 use Rattle.tokens.specs.Cuts.{before, after}
-use Rattle.tokens.specs.Tokens.{Token, tokens, given, value, others}
+use Rattle.tokens.specs.Tokens.{Token, tokens, present, value, others}
 use Rattle.tokens.proofs.Lookups.{value-missing}
 use Rattle.line_values.specs.Values.{slash, isPart}
 use Rattle.line_groups.specs.Rules.{alike, optional, deflated, payloadGood, singlesGood, fragmentGood, streamGood}
@@ -125,7 +125,7 @@ headers-again os =
 
 -- ---- a value that is missing is empty
 
-missing : {A : Type 0} (f : List ℕ → A) (d : A) → f [] ≡ d → (k : List ℕ) (ts : List Token) (b : Bool) → given k ts ≡ b → (if b then f (value k ts) else d) ≡ f (value k ts)
+missing : {A : Type 0} (f : List ℕ → A) (d : A) → f [] ≡ d → (k : List ℕ) (ts : List Token) (b : Bool) → present k ts ≡ b → (if b then f (value k ts) else d) ≡ f (value k ts)
 missing f d e k ts true g = refl
 missing f d e k ts false g = sym (ap f (value-missing k ts g) ∙ e)
 
@@ -148,20 +148,20 @@ module _ (s : List ℕ) (ok : refusalOf s ≡ 0) where
   unfolding lineOf
   accepted-short = kept s ok .small
 
-  pub mid-frag : given keyMid ts ≡ given keyFrag ts
+  pub mid-frag : present keyMid ts ≡ present keyFrag ts
   unfolding fragmentGood
-  mid-frag = alike-same (given keyMid ts) (given keyFrag ts) (and-left (alike (given keyMid ts) (given keyFrag ts)) (optional keyMid (isHex 7) ts and optional keyFrag isPart ts) (kept s ok .fragment))
+  mid-frag = alike-same (present keyMid ts) (present keyFrag ts) (and-left (alike (present keyMid ts) (present keyFrag ts)) (optional keyMid (isHex 7) ts and optional keyFrag isPart ts) (kept s ok .fragment))
 
   abbrev after-sn : Bool
-  after-sn = alike (given keySid ts) (given keyGt ts) and (optional keySn (isNumber 4294967295) ts and optional keyGt (isNumber 4294967295) ts)
+  after-sn = alike (present keySid ts) (present keyGt ts) and (optional keySn (isNumber 4294967295) ts and optional keyGt (isNumber 4294967295) ts)
 
-  pub sid-sn : given keySid ts ≡ given keySn ts
+  pub sid-sn : present keySid ts ≡ present keySn ts
   unfolding streamGood
-  sid-sn = alike-same (given keySid ts) (given keySn ts) (and-left (alike (given keySid ts) (given keySn ts)) after-sn (kept s ok .stream))
+  sid-sn = alike-same (present keySid ts) (present keySn ts) (and-left (alike (present keySid ts) (present keySn ts)) after-sn (kept s ok .stream))
 
-  pub sid-gt : given keySid ts ≡ given keyGt ts
+  pub sid-gt : present keySid ts ≡ present keyGt ts
   unfolding streamGood
-  sid-gt = alike-same (given keySid ts) (given keyGt ts) (and-left (alike (given keySid ts) (given keyGt ts)) (optional keySn (isNumber 4294967295) ts and optional keyGt (isNumber 4294967295) ts) (and-right (alike (given keySid ts) (given keySn ts)) after-sn (kept s ok .stream)))
+  sid-gt = alike-same (present keySid ts) (present keyGt ts) (and-left (alike (present keySid ts) (present keyGt ts)) (optional keySn (isNumber 4294967295) ts and optional keyGt (isNumber 4294967295) ts) (and-right (alike (present keySid ts) (present keySn ts)) after-sn (kept s ok .stream)))
 
   pub accepted-tidy : tidy (lineOf s .fields) ≡ lineOf s .fields
   unfolding lineOf fieldsOf tidy before after digits.value
@@ -171,15 +171,15 @@ module _ (s : List ℕ) (ok : refusalOf s ≡ 0) where
         stream-again (value keySid ts),
         address-again (value keyDst ts),
         headers-again (others ts),
-        missing signed (pos 0) refl keyS ts (given keyS ts) refl,
-        missing number 0 refl keyTtl ts (given keyTtl ts) refl,
-        missing callText (callText []) refl keySrc ts (given keySrc ts) refl,
-        missing hexValue 0 refl keyMid ts (given keyMid ts) refl,
-        missing streamText (streamText []) refl keySid ts (given keySid ts) refl,
-        missing (λ v. number (before slash v)) 0 refl keyFrag ts (given keyMid ts) (sym mid-frag),
-        missing (λ v. number (after slash v)) 0 refl keyFrag ts (given keyMid ts) (sym mid-frag),
-        missing number 0 refl keySn ts (given keySid ts) (sym sid-sn),
-        missing number 0 refl keyGt ts (given keySid ts) (sym sid-gt),
+        missing signed (pos 0) refl keyS ts (present keyS ts) refl,
+        missing number 0 refl keyTtl ts (present keyTtl ts) refl,
+        missing callText (callText []) refl keySrc ts (present keySrc ts) refl,
+        missing hexValue 0 refl keyMid ts (present keyMid ts) refl,
+        missing streamText (streamText []) refl keySid ts (present keySid ts) refl,
+        missing (λ v. number (before slash v)) 0 refl keyFrag ts (present keyMid ts) (sym mid-frag),
+        missing (λ v. number (after slash v)) 0 refl keyFrag ts (present keyMid ts) (sym mid-frag),
+        missing number 0 refl keySn ts (present keySid ts) (sym sid-sn),
+        missing number 0 refl keyGt ts (present keySid ts) (sym sid-gt),
       )
 
   -- ---- they are a value of the code's type
@@ -200,17 +200,17 @@ module _ (s : List ℕ) (ok : refusalOf s ≡ 0) where
 
   within : (limit : ℕ) (k : List ℕ) → optional k (isNumber limit) ts ≡ true → number (value k ts) ≤ limit
   unfolding digits.value
-  within limit k e = go (given k ts) refl e
+  within limit k e = go (present k ts) refl e
     where
-      go : (b : Bool) → given k ts ≡ b → (if b then isNumber limit (value k ts) else true) ≡ true → number (value k ts) ≤ limit
+      go : (b : Bool) → present k ts ≡ b → (if b then isNumber limit (value k ts) else true) ≡ true → number (value k ts) ≤ limit
       go true g f = leb-true (number (value k ts)) limit (and-right (isDecimal (value k ts)) (number (value k ts) ≤? limit) f)
       go false g f = let z : number (value k ts) ≡ 0 = ap number (value-missing k ts g) in omega arith
 
   salt-within : SFits w64 (signed (value keyS ts))
   unfolding singlesGood digits.value
-  salt-within = go (given keyS ts) refl (and-left (optional keyS isSigned ts) (optional keyTtl (isNumber 2147483647) ts and optional keyChk (isHex 4) ts) (kept s ok .singles))
+  salt-within = go (present keyS ts) refl (and-left (optional keyS isSigned ts) (optional keyTtl (isNumber 2147483647) ts and optional keyChk (isHex 4) ts) (kept s ok .singles))
     where
-      go : (b : Bool) → given keyS ts ≡ b → (if b then isSigned (value keyS ts) else true) ≡ true → SFits w64 (signed (value keyS ts))
+      go : (b : Bool) → present keyS ts ≡ b → (if b then isSigned (value keyS ts) else true) ≡ true → SFits w64 (signed (value keyS ts))
       go true g f = fits-signed (value keyS ts) f
       go false g f = rw (value-missing keyS ts g) (record { sfits = omega arith })
 
@@ -219,7 +219,7 @@ module _ (s : List ℕ) (ok : refusalOf s ≡ 0) where
 
   numbers-good : numbers ≡ true
   unfolding streamGood
-  numbers-good = and-right (alike (given keySid ts) (given keyGt ts)) numbers (and-right (alike (given keySid ts) (given keySn ts)) after-sn (kept s ok .stream))
+  numbers-good = and-right (alike (present keySid ts) (present keyGt ts)) numbers (and-right (alike (present keySid ts) (present keySn ts)) after-sn (kept s ok .stream))
 
   pub items-eight : length (headersOf (others ts) .items) ≡ 8
   unfolding headersOf headersFit

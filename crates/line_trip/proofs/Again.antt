@@ -14,7 +14,7 @@ use Rattle.utf8.specs.Utf8.{utf8}
 use Rattle.refusals.specs.Numbers.{longestPayload}
 use Rattle.envelope.specs.Rules.{envelope}
 use Rattle.tokens.specs.Cuts.{before, after, split}
-use Rattle.tokens.specs.Tokens.{tokens, given, others}
+use Rattle.tokens.specs.Tokens.{tokens, present, others}
 use Rattle.line.specs.Reading.{restOf, plain, isText, lineOf, refusalOf}
 use Rattle.line.specs.Writing.{printOf, written, messageGood, writeRefusal}
 use Rattle.line.specs.declared.Line.{Line}
@@ -63,5 +63,5 @@ module _ (s : List ℕ) (ok : refusalOf s ≡ 0) (ordered : InOrder (tokens (res
 
 -- there are such lines, 000's among them
 pub ordered-there : (refusalOf 'with-chk' ≡ 0) × InOrder (tokens (restOf 'with-chk'))
-unfolding same before after split given others reserved reservedKeys
+unfolding same before after split present others reserved reservedKeys
 ordered-there = (with-chk, refl)

@@ -11,7 +11,7 @@ use Rattle.octets.proofs.Tests.{if-yes, if-no, and-left, and-right, and-both, o
 use Rattle.octets.proofs.Lists.{same-eq}
 use Rattle.names.specs.Reserved.{reserved}
 use Rattle.headers.specs.Keys.{allDiffer}
-use Rattle.tokens.specs.Tokens.{Token, keys, given, value, others, none, lastOnly}
+use Rattle.tokens.specs.Tokens.{Token, keys, present, value, others, none, lastOnly}
 use Rattle.line.specs.Writing.{Choice, chosen}
 use Rattle.line_trip.proofs.Cuts.{sound}
 
@@ -41,12 +41,12 @@ chosen-cons o os ts = go (o .on)
     go true = refl
     go false = refl
 
-given-step : (k : List ℕ) (o : Choice) (ts : List Token)
-    → given k (if o .on then (o .what ∷ ts) else ts) ≡ (if same k (o .what .key) then (if o .on then true else given k ts) else given k ts)
-unfolding given
-given-step k o ts = go (o .on) (same k (o .what .key)) refl
+present-step : (k : List ℕ) (o : Choice) (ts : List Token)
+    → present k (if o .on then (o .what ∷ ts) else ts) ≡ (if same k (o .what .key) then (if o .on then true else present k ts) else present k ts)
+unfolding present
+present-step k o ts = go (o .on) (same k (o .what .key)) refl
   where
-    go : (b s : Bool) → same k (o .what .key) ≡ s → given k (if b then (o .what ∷ ts) else ts) ≡ (if s then (if b then true else given k ts) else given k ts)
+    go : (b s : Bool) → same k (o .what .key) ≡ s → present k (if b then (o .what ∷ ts) else ts) ≡ (if s then (if b then true else present k ts) else present k ts)
     go true true f = rw f
     go true false f = rw f
     go false true f = refl
@@ -63,10 +63,10 @@ value-step k o ts = go (o .on) (same k (o .what .key)) refl
     go false true f = refl
     go false false f = refl
 
-pub given-chosen : (k : List ℕ) (os : List Choice) (ts : List Token) → given k (chosen os ++ ts) ≡ givenIn k os (given k ts)
+pub present-chosen : (k : List ℕ) (os : List Choice) (ts : List Token) → present k (chosen os ++ ts) ≡ givenIn k os (present k ts)
 unfolding chosen
-given-chosen k [] ts = refl
-given-chosen k (o ∷ os) ts = ap (given k) (chosen-cons o os ts) ∙ given-step k o (chosen os ++ ts) ∙ rw (given-chosen k os ts)
+present-chosen k [] ts = refl
+present-chosen k (o ∷ os) ts = ap (present k) (chosen-cons o os ts) ∙ present-step k o (chosen os ++ ts) ∙ rw (present-chosen k os ts)
 
 pub value-chosen : (k : List ℕ) (os : List Choice) (ts : List Token) → value k (chosen os ++ ts) ≡ valueIn k os (value k ts)
 unfolding chosen
@@ -86,10 +86,10 @@ differs k t r f = go (same k (t .key)) refl
     go true e = true-not-false (reserved (t .key)) (ap reserved (sym (same-eq k (t .key) e)) ∙ r) (not-no (reserved (t .key)) f)
 
 module _ (k : List ℕ) (ts : List Token) (r : reserved k ≡ true) where
-  pub given-past : (hs : List Token) → every free hs ≡ true → given k (hs ++ ts) ≡ given k ts
-  unfolding given
-  given-past [] e = refl
-  given-past (h ∷ hs) e = or-next _ _ (differs k h r (and-left (free h) (every free hs) e)) ∙ given-past hs (and-right (free h) (every free hs) e)
+  pub present-past : (hs : List Token) → every free hs ≡ true → present k (hs ++ ts) ≡ present k ts
+  unfolding present
+  present-past [] e = refl
+  present-past (h ∷ hs) e = or-next _ _ (differs k h r (and-left (free h) (every free hs) e)) ∙ present-past hs (and-right (free h) (every free hs) e)
 
   pub value-past : (hs : List Token) → every free hs ≡ true → value k (hs ++ ts) ≡ value k ts
   unfolding value
@@ -107,21 +107,21 @@ some-no k (x ∷ ks) (suc i) l e = some-no k ks i (omega arith) (or-no (same k x
 abbrev pub once : List Token → Bool
 once ts = allDiffer (keys ts)
 
-given-append : (k : List ℕ) (a b : List Token) → given k a ≡ false → given k b ≡ false → given k (a ++ b) ≡ false
-unfolding given
-given-append k [] b e f = f
-given-append k (t ∷ a) b e f = let g = or-no (same k (t .key)) (given k a) e in or-next _ _ (g .0) ∙ given-append k a b (g .1) f
+present-append : (k : List ℕ) (a b : List Token) → present k a ≡ false → present k b ≡ false → present k (a ++ b) ≡ false
+unfolding present
+present-append k [] b e f = f
+present-append k (t ∷ a) b e f = let g = or-no (same k (t .key)) (present k a) e in or-next _ _ (g .0) ∙ present-append k a b (g .1) f
 
 abbrev pub apart : List Token → Token → Bool
-apart b t = no (given (t .key) b)
+apart b t = no (present (t .key) b)
 
 pub once-append : (a b : List Token) → once a ≡ true → once b ≡ true → every (apart b) a ≡ true → once (a ++ b) ≡ true
-unfolding allDiffer given
+unfolding allDiffer present
 once-append [] b p q r = q
 once-append (t ∷ a) b p q r =
-    and-both (no (given (t .key) (a ++ b))) (once (a ++ b))
-    (no-false _ (given-append (t .key) a b (not-no (given (t .key) a) (and-left _ _ p)) (not-no (given (t .key) b) (and-left (apart b t) (every (apart b) a) r))))
-    (once-append a b (and-right (no (given (t .key) a)) _ p) q (and-right (apart b t) (every (apart b) a) r))
+    and-both (no (present (t .key) (a ++ b))) (once (a ++ b))
+    (no-false _ (present-append (t .key) a b (not-no (present (t .key) a) (and-left _ _ p)) (not-no (present (t .key) b) (and-left (apart b t) (every (apart b) a) r))))
+    (once-append a b (and-right (no (present (t .key) a)) _ p) q (and-right (apart b t) (every (apart b) a) r))
 
 -- the choices' keys: no two the same, and none among the tokens behind
 abbrev pub anyKey : List ℕ → List Choice → Bool
@@ -130,26 +130,26 @@ anyKey k (o ∷ os) = same k (o .what .key) or anyKey k os
 
 abbrev pub clear : List Choice → List Token → Bool
 clear [] ts = true
-clear (o ∷ os) ts = no (anyKey (o .what .key) os) and (no (given (o .what .key) ts) and clear os ts)
+clear (o ∷ os) ts = no (anyKey (o .what .key) os) and (no (present (o .what .key) ts) and clear os ts)
 
-any-given : (k : List ℕ) (os : List Choice) (d : Bool) → anyKey k os ≡ false → givenIn k os d ≡ d
-any-given k [] d e = refl
-any-given k (o ∷ os) d e = let f = or-no (same k (o .what .key)) (anyKey k os) e in rw (f .0) (any-given k os d (f .1))
+any-present : (k : List ℕ) (os : List Choice) (d : Bool) → anyKey k os ≡ false → givenIn k os d ≡ d
+any-present k [] d e = refl
+any-present k (o ∷ os) d e = let f = or-no (same k (o .what .key)) (anyKey k os) e in rw (f .0) (any-present k os d (f .1))
 
-once-cons : (t : Token) (ts : List Token) → given (t .key) ts ≡ false → once ts ≡ true → once (t ∷ ts) ≡ true
-unfolding allDiffer given
-once-cons t ts e f = and-both (no (given (t .key) ts)) (once ts) (no-false _ e) f
+once-cons : (t : Token) (ts : List Token) → present (t .key) ts ≡ false → once ts ≡ true → once (t ∷ ts) ≡ true
+unfolding allDiffer present
+once-cons t ts e f = and-both (no (present (t .key) ts)) (once ts) (no-false _ e) f
 
 pub once-chosen : (os : List Choice) (ts : List Token) → once ts ≡ true → clear os ts ≡ true → once (chosen os ++ ts) ≡ true
 unfolding chosen
 once-chosen [] ts r e = r
 once-chosen (o ∷ os) ts r e =
     let k = o .what .key in
-    let a = not-no (anyKey k os) (and-left (no (anyKey k os)) (no (given k ts) and clear os ts) e) in
-    let b = and-right (no (anyKey k os)) (no (given k ts) and clear os ts) e in
-    let f = not-no (given k ts) (and-left (no (given k ts)) (clear os ts) b) in
-    let ih = once-chosen os ts r (and-right (no (given k ts)) (clear os ts) b) in
-    let g : given k (chosen os ++ ts) ≡ false = given-chosen k os ts ∙ any-given k os (given k ts) a ∙ f in
+    let a = not-no (anyKey k os) (and-left (no (anyKey k os)) (no (present k ts) and clear os ts) e) in
+    let b = and-right (no (anyKey k os)) (no (present k ts) and clear os ts) e in
+    let f = not-no (present k ts) (and-left (no (present k ts)) (clear os ts) b) in
+    let ih = once-chosen os ts r (and-right (no (present k ts)) (clear os ts) b) in
+    let g : present k (chosen os ++ ts) ≡ false = present-chosen k os ts ∙ any-present k os (present k ts) a ∙ f in
     rw (chosen-cons o os ts) (by-test (λ l. once l ≡ true) (o .on) (o .what ∷ (chosen os ++ ts)) (chosen os ++ ts) (λ e. once-cons (o .what) (chosen os ++ ts) g ih) (λ e. ih))
 
 -- ---- the headers among the tokens
@@ -180,15 +180,15 @@ others-chosen (o ∷ os) e =
     by-test (λ l. others l ≡ []) (o .on) (o .what ∷ chosen os) (chosen os)
     (λ f. if-yes _ _ _ (and-left (reservedChoice o) (every reservedChoice os) e) ∙ ih) (λ f. ih)
 
-pub last-only : (k : List ℕ) (a : List Token) (t : Token) → given k a ≡ false → lastOnly k (keys (a ++ (t ∷ []))) ≡ true
-unfolding given lastOnly
+pub last-only : (k : List ℕ) (a : List Token) (t : Token) → present k a ≡ false → lastOnly k (keys (a ++ (t ∷ []))) ≡ true
+unfolding present lastOnly
 last-only k [] t e = go (no (same k (t .key)))
   where
     go : (b : Bool) → (b or true) and true ≡ true
     go true = refl
     go false = refl
 last-only k (u ∷ a) t e =
-    let f = or-no (same k (u .key)) (given k a) e in
+    let f = or-no (same k (u .key)) (present k a) e in
     and-both (no (same k (u .key)) or none (keys (a ++ (t ∷ [])))) _ (or-left _ _ (no-false _ (f .0))) (last-only k a t (f .1))
 
 -- ---- sound tokens

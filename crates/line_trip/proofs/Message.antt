@@ -36,7 +36,7 @@ use Rattle.envelope.specs.Texts.{callText, addressText, streamText, headerText}
 use Rattle.envelope.specs.Rules.{callBytes, addressBytes, streamBytes, callIn, addressIn, streamIn, ttlIn, fragmentIn, idIn, envelope}
 use Rattle.envelope.specs.Tidy.{tidyHeader, tidyHeaders, tidy}
 use Rattle.tokens.specs.Cuts.{has, before, after}
-use Rattle.tokens.specs.Tokens.{Token, token, tokenOf, words, tokens, keys, given, value, others, lastOnly, keyed, wordOf, spaced, space, equals}
+use Rattle.tokens.specs.Tokens.{Token, token, tokenOf, words, tokens, keys, present, value, others, lastOnly, keyed, wordOf, spaced, space, equals}
 use Rattle.line_values.specs.Values.{slash, isPart}
 use Rattle.line_groups.specs.Rules.{alike, 'p', 'd', deflated, payloadGood, singlesGood, fragmentGood, streamGood}
 use Rattle.line_groups.specs.Answers.{lenOf}
@@ -46,7 +46,7 @@ use Rattle.line.specs.Writing.{chosen, partText, choicesOf, headerToken, header
 use Rattle.line.specs.declared.Line.{Line}
 use Rattle.line_trip.proofs.Texts.{every-append, every-by, ascii, utf8-append, ascii-ruled, decimal-ascii, hex-ascii, signed-ascii, callsign-ascii, destination-ascii}
 use Rattle.line_trip.proofs.Cuts.{before-at, after-at, visible, spaceless, words-back, spaced-plain, spaced-utf8, spaced-append, map-append, sound, ruled-visible, words-visible, tokens-back, all-equals}
-use Rattle.line_trip.proofs.Lookups.{not-no, givenIn, valueIn, given-chosen, value-chosen, free, given-past, value-past, some-no, once, apart, once-append, once-chosen, others-append, others-free, others-chosen, last-only, soundChoice, sound-chosen}
+use Rattle.line_trip.proofs.Lookups.{not-no, givenIn, valueIn, present-chosen, value-chosen, free, present-past, value-past, some-no, once, apart, once-append, once-chosen, others-append, others-free, others-chosen, last-only, soundChoice, sound-chosen}
 use Rattle.line_trip.proofs.Values.{number-is, signed-is, id-back, PartMade, part-back, part-ascii, flag-back, read-back, rule-back, when-set}
 use Rattle.line_trip.proofs.Tidied.{good-header, few, each, differ, counted, Rules, rules-of, envelope-tidy}
 
@@ -168,10 +168,10 @@ keys-map (h ∷ l) = ap (λ (x : List (List ℕ)). keyOf h ∷ x) (keys-map l)
 
 -- a key that is not reserved is neither `dst` nor `chk`
 free-apart : (v w : List ℕ) (t : Token) → free t ≡ true → apart (token keyDst v ∷ token keyChk w ∷ []) t ≡ true
-unfolding reserved reservedKeys given
+unfolding reserved reservedKeys present
 free-apart v w t h =
     let e = not-no (reserved (t .key)) h in
-    no-false (given (t .key) (token keyDst v ∷ token keyChk w ∷ [])) (rw (some-no (t .key) reservedKeys 4 (omega arith) e, some-no (t .key) reservedKeys 5 (omega arith) e))
+    no-false (present (t .key) (token keyDst v ∷ token keyChk w ∷ [])) (rw (some-no (t .key) reservedKeys 4 (omega arith) e, some-no (t .key) reservedKeys 5 (omega arith) e))
 
 choice-sound : (b : Bool) (k v : List ℕ) → ruled false k ≡ true → (b ≡ true → ruled true v ≡ true) → (if b then sound (token k v) else true) ≡ true
 unfolding sound
@@ -269,99 +269,99 @@ module _ (m : Line) (good : messageGood m ≡ true) (typed : Typed m) where
   all-some = omega (arith, length-append (chosen (choicesOf m)) (headerTokens (e .headers) ++ ends), length-append (headerTokens (e .headers)) ends)
 
   -- looking a reserved key up
-  look : (k : List ℕ) → reserved k ≡ true → given k (allOf m) ≡ givenIn k (choicesOf m) (given k ends)
-  look k p = given-chosen k (choicesOf m) (headerTokens (e .headers) ++ ends) ∙ ap (givenIn k (choicesOf m)) (given-past k ends p (headerTokens (e .headers)) headers-free)
+  look : (k : List ℕ) → reserved k ≡ true → present k (allOf m) ≡ givenIn k (choicesOf m) (present k ends)
+  look k p = present-chosen k (choicesOf m) (headerTokens (e .headers) ++ ends) ∙ ap (givenIn k (choicesOf m)) (present-past k ends p (headerTokens (e .headers)) headers-free)
 
   find : (k : List ℕ) → reserved k ≡ true → value k (allOf m) ≡ valueIn k (choicesOf m) (value k ends)
   find k p = value-chosen k (choicesOf m) (headerTokens (e .headers) ++ ends) ∙ ap (valueIn k (choicesOf m)) (value-past k ends p (headerTokens (e .headers)) headers-free)
 
   -- what each key is found to say
   v-len : value keyLen (allOf m) ≡ decimal (m .len)
-  unfolding choicesOf reserved reservedKeys same given value
+  unfolding choicesOf reserved reservedKeys same present value
   v-len = find keyLen refl
 
   v-fmt : value keyFmt (allOf m) ≡ 'p'
-  unfolding choicesOf reserved reservedKeys same given value
+  unfolding choicesOf reserved reservedKeys same present value
   v-fmt = find keyFmt refl
 
   v-dst : value keyDst (allOf m) ≡ addressBytes (e .dst)
-  unfolding choicesOf reserved reservedKeys same given value
+  unfolding choicesOf reserved reservedKeys same present value
   v-dst = find keyDst refl
 
   v-chk : value keyChk (allOf m) ≡ hexDigits 4 (crc16 (bodyOf m))
-  unfolding choicesOf reserved reservedKeys same given value
+  unfolding choicesOf reserved reservedKeys same present value
   v-chk = find keyChk refl
 
-  g-chk : given keyChk (allOf m) ≡ true
-  unfolding choicesOf reserved reservedKeys same given value
+  g-chk : present keyChk (allOf m) ≡ true
+  unfolding choicesOf reserved reservedKeys same present value
   g-chk = look keyChk refl
 
-  g-clen : given keyClen (allOf m) ≡ false
-  unfolding choicesOf reserved reservedKeys same given value
+  g-clen : present keyClen (allOf m) ≡ false
+  unfolding choicesOf reserved reservedKeys same present value
   g-clen = look keyClen refl
 
   v-s : value keyS (allOf m) ≡ (if e .«has_salt» then signedDecimal (e .salt) else [])
-  unfolding choicesOf reserved reservedKeys same given value
+  unfolding choicesOf reserved reservedKeys same present value
   v-s = find keyS refl
 
-  g-s : given keyS (allOf m) ≡ e .«has_salt»
-  unfolding choicesOf reserved reservedKeys same given
+  g-s : present keyS (allOf m) ≡ e .«has_salt»
+  unfolding choicesOf reserved reservedKeys same present
   g-s = look keyS refl ∙ flag-back (e .«has_salt»)
 
   v-ttl : value keyTtl (allOf m) ≡ (if e .«has_ttl» then decimal (e .ttl) else [])
-  unfolding choicesOf reserved reservedKeys same given value
+  unfolding choicesOf reserved reservedKeys same present value
   v-ttl = find keyTtl refl
 
-  g-ttl : given keyTtl (allOf m) ≡ e .«has_ttl»
-  unfolding choicesOf reserved reservedKeys same given
+  g-ttl : present keyTtl (allOf m) ≡ e .«has_ttl»
+  unfolding choicesOf reserved reservedKeys same present
   g-ttl = look keyTtl refl ∙ flag-back (e .«has_ttl»)
 
   v-src : value keySrc (allOf m) ≡ (if e .«has_src» then callBytes (e .src) else [])
-  unfolding choicesOf reserved reservedKeys same given value
+  unfolding choicesOf reserved reservedKeys same present value
   v-src = find keySrc refl
 
-  g-src : given keySrc (allOf m) ≡ e .«has_src»
-  unfolding choicesOf reserved reservedKeys same given
+  g-src : present keySrc (allOf m) ≡ e .«has_src»
+  unfolding choicesOf reserved reservedKeys same present
   g-src = look keySrc refl ∙ flag-back (e .«has_src»)
 
   v-mid : value keyMid (allOf m) ≡ (if e .«has_fragment» then hexDigits 7 (e .mid) else [])
-  unfolding choicesOf reserved reservedKeys same given value
+  unfolding choicesOf reserved reservedKeys same present value
   v-mid = find keyMid refl
 
-  g-mid : given keyMid (allOf m) ≡ e .«has_fragment»
-  unfolding choicesOf reserved reservedKeys same given
+  g-mid : present keyMid (allOf m) ≡ e .«has_fragment»
+  unfolding choicesOf reserved reservedKeys same present
   g-mid = look keyMid refl ∙ flag-back (e .«has_fragment»)
 
   v-frag : value keyFrag (allOf m) ≡ (if e .«has_fragment» then partText (e .index) (e .total) else [])
-  unfolding choicesOf reserved reservedKeys same given value
+  unfolding choicesOf reserved reservedKeys same present value
   v-frag = find keyFrag refl
 
-  g-frag : given keyFrag (allOf m) ≡ e .«has_fragment»
-  unfolding choicesOf reserved reservedKeys same given
+  g-frag : present keyFrag (allOf m) ≡ e .«has_fragment»
+  unfolding choicesOf reserved reservedKeys same present
   g-frag = look keyFrag refl ∙ flag-back (e .«has_fragment»)
 
   v-sid : value keySid (allOf m) ≡ (if e .«has_stream» then streamBytes (e .sid) else [])
-  unfolding choicesOf reserved reservedKeys same given value
+  unfolding choicesOf reserved reservedKeys same present value
   v-sid = find keySid refl
 
-  g-sid : given keySid (allOf m) ≡ e .«has_stream»
-  unfolding choicesOf reserved reservedKeys same given
+  g-sid : present keySid (allOf m) ≡ e .«has_stream»
+  unfolding choicesOf reserved reservedKeys same present
   g-sid = look keySid refl ∙ flag-back (e .«has_stream»)
 
   v-sn : value keySn (allOf m) ≡ (if e .«has_stream» then decimal (e .sn) else [])
-  unfolding choicesOf reserved reservedKeys same given value
+  unfolding choicesOf reserved reservedKeys same present value
   v-sn = find keySn refl
 
-  g-sn : given keySn (allOf m) ≡ e .«has_stream»
-  unfolding choicesOf reserved reservedKeys same given
+  g-sn : present keySn (allOf m) ≡ e .«has_stream»
+  unfolding choicesOf reserved reservedKeys same present
   g-sn = look keySn refl ∙ flag-back (e .«has_stream»)
 
   v-gt : value keyGt (allOf m) ≡ (if e .«has_stream» then decimal (e .gt) else [])
-  unfolding choicesOf reserved reservedKeys same given value
+  unfolding choicesOf reserved reservedKeys same present value
   v-gt = find keyGt refl
 
-  g-gt : given keyGt (allOf m) ≡ e .«has_stream»
-  unfolding choicesOf reserved reservedKeys same given
+  g-gt : present keyGt (allOf m) ≡ e .«has_stream»
+  unfolding choicesOf reserved reservedKeys same present
   g-gt = look keyGt refl ∙ flag-back (e .«has_stream»)
 
   -- the headers, and no key twice
@@ -374,11 +374,11 @@ module _ (m : Line) (good : messageGood m ≡ true) (typed : Typed m) where
       ∙ ap (λ (l : List Token). l ++ []) (others-free (headerTokens (e .headers)) headers-free)
       ∙ append-nil (headerTokens (e .headers))
 
-  clear-behind : (k : List ℕ) → reserved k ≡ true → given k ends ≡ false → no (given k (headerTokens (e .headers) ++ ends)) ≡ true
-  clear-behind k p q = no-false _ (given-past k ends p (headerTokens (e .headers)) headers-free ∙ q)
+  clear-behind : (k : List ℕ) → reserved k ≡ true → present k ends ≡ false → no (present k (headerTokens (e .headers) ++ ends)) ≡ true
+  clear-behind k p q = no-false _ (present-past k ends p (headerTokens (e .headers)) headers-free ∙ q)
 
   all-once : once (allOf m) ≡ true
-  unfolding choicesOf reserved reservedKeys same given allDiffer keysOf
+  unfolding choicesOf reserved reservedKeys same present allDiffer keysOf
   all-once =
       once-chosen (choicesOf m) (headerTokens (e .headers) ++ ends)
       (once-append (headerTokens (e .headers)) ends (ap allDiffer (keys-map items) ∙ differ (e .headers) (typed .eight) (r .headers-rule)) refl
@@ -395,12 +395,12 @@ module _ (m : Line) (good : messageGood m ≡ true) (typed : Typed m) where
       (and-both _ _ (clear-behind keyGt refl refl) refl))))))))))
 
   chk-last : lastOnly keyChk (keys (allOf m)) ≡ true
-  unfolding choicesOf reserved reservedKeys same given tokensOf
+  unfolding choicesOf reserved reservedKeys same present tokensOf
   chk-last =
       sym (ap (λ (l : List Token). lastOnly keyChk (keys l)) (all-is m))
       ∙ last-only keyChk (tokensOf m) (chkToken (bodyOf m))
-      (given-chosen keyChk (choicesOf m) (headerTokens (e .headers) ++ (dstToken m ∷ []))
-      ∙ given-past keyChk (dstToken m ∷ []) refl (headerTokens (e .headers)) headers-free)
+      (present-chosen keyChk (choicesOf m) (headerTokens (e .headers) ++ (dstToken m ∷ []))
+      ∙ present-past keyChk (dstToken m ∷ []) refl (headerTokens (e .headers)) headers-free)
 
   -- ---- the rules
 
@@ -409,31 +409,31 @@ module _ (m : Line) (good : messageGood m ≡ true) (typed : Typed m) where
   payload-good =
       and-both (isNumber 2147483647 (value keyLen (allOf m))) _ (ap (isNumber 2147483647) v-len ∙ number-is 2147483647 (m .len) len-fits .0)
       (and-both (same (value keyFmt (allOf m)) 'p' or deflated (allOf m)) _ (or-left _ _ (ap (λ (v : List ℕ). same v 'p') v-fmt))
-      (and-both (alike (given keyClen (allOf m)) (deflated (allOf m))) _ (rw (g-clen, v-fmt)) (if-no _ _ _ g-clen)))
+      (and-both (alike (present keyClen (allOf m)) (deflated (allOf m))) _ (rw (g-clen, v-fmt)) (if-no _ _ _ g-clen)))
 
   singles-good : singlesGood (allOf m) ≡ true
   unfolding singlesGood
   singles-good =
-      and-both (if given keyS (allOf m) then isSigned (value keyS (allOf m)) else true) _
+      and-both (if present keyS (allOf m) then isSigned (value keyS (allOf m)) else true) _
       (rule-back isSigned (e .«has_salt») _ (signedDecimal (e .salt)) _ g-s v-s (λ b. signed-is (e .salt) (typed .salt-fits) .0))
-      (and-both (if given keyTtl (allOf m) then isNumber 2147483647 (value keyTtl (allOf m)) else true) _
+      (and-both (if present keyTtl (allOf m) then isNumber 2147483647 (value keyTtl (allOf m)) else true) _
       (rule-back (isNumber 2147483647) (e .«has_ttl») _ (decimal (e .ttl)) _ g-ttl v-ttl (λ b. number-is 2147483647 (e .ttl) (ttl-most b) .0))
       (if-yes _ _ _ g-chk ∙ ap (isHex 4) v-chk ∙ hex-is 4 (crc16 (bodyOf m))))
 
   fragment-good : fragmentGood (allOf m) ≡ true
   unfolding fragmentGood
   fragment-good =
-      and-both (alike (given keyMid (allOf m)) (given keyFrag (allOf m))) _ (alike-back (e .«has_fragment») _ _ g-mid g-frag)
-      (and-both (if given keyMid (allOf m) then isHex 7 (value keyMid (allOf m)) else true) _
+      and-both (alike (present keyMid (allOf m)) (present keyFrag (allOf m))) _ (alike-back (e .«has_fragment») _ _ g-mid g-frag)
+      (and-both (if present keyMid (allOf m) then isHex 7 (value keyMid (allOf m)) else true) _
       (rule-back (isHex 7) (e .«has_fragment») _ (hexDigits 7 (e .mid)) _ g-mid v-mid (λ b. hex-is 7 (e .mid)))
       (rule-back isPart (e .«has_fragment») _ (partText (e .index) (e .total)) _ g-frag v-frag (λ b. part-made b .is-part)))
 
   stream-good : streamGood (allOf m) ≡ true
   unfolding streamGood
   stream-good =
-      and-both (alike (given keySid (allOf m)) (given keySn (allOf m))) _ (alike-back (e .«has_stream») _ _ g-sid g-sn)
-      (and-both (alike (given keySid (allOf m)) (given keyGt (allOf m))) _ (alike-back (e .«has_stream») _ _ g-sid g-gt)
-      (and-both (if given keySn (allOf m) then isNumber 4294967295 (value keySn (allOf m)) else true) _
+      and-both (alike (present keySid (allOf m)) (present keySn (allOf m))) _ (alike-back (e .«has_stream») _ _ g-sid g-sn)
+      (and-both (alike (present keySid (allOf m)) (present keyGt (allOf m))) _ (alike-back (e .«has_stream») _ _ g-sid g-gt)
+      (and-both (if present keySn (allOf m) then isNumber 4294967295 (value keySn (allOf m)) else true) _
       (rule-back (isNumber 4294967295) (e .«has_stream») _ (decimal (e .sn)) _ g-sn v-sn (λ b. number-is 4294967295 (e .sn) (omega (arith, typed .sn-fits)) .0))
       (rule-back (isNumber 4294967295) (e .«has_stream») _ (decimal (e .gt)) _ g-gt v-gt (λ b. number-is 4294967295 (e .gt) (omega (arith, typed .gt-fits)) .0))))
 

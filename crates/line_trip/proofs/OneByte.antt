@@ -9,7 +9,7 @@ use lib.Seq.{take-at}
 use borrow.Author.Tests.{eq-eqb, eqb-true}
 use Rattle.octets.specs.Words.{if_then_else_, _or_, no, _<?_, _=?_, every}
 use Rattle.octets.specs.Bytes.{Bytes, same}
-use Rattle.octets.proofs.Tests.{if-yes, if-no, and-left, and-right, or-next, true-not-false}
+use Rattle.octets.proofs.Tests.{if-yes, if-no, and-left, and-right, or-next, or-no, true-not-false}
 use Rattle.refusals.specs.Numbers.{lineMalformed, chkDiffers, formatD, payloadTooLong, longestPayload}
 use Rattle.text.specs.Digits.{isDigit}
 use Rattle.text.specs.Hex.{isHex, hexValue}
@@ -18,7 +18,7 @@ use Rattle.headers.specs.Keys.{allDiffer}
 use Rattle.crc16.specs.Crc.{crc16}
 use Rattle.crc16.proofs.Laws.{one-byte}
 use Rattle.tokens.specs.Cuts.{has, before, after, onto, split}
-use Rattle.tokens.specs.Tokens.{Token, token, tokenOf, words, tokens, keys, given, value, none, lastOnly, keyed, wordOf, space, equals}
+use Rattle.tokens.specs.Tokens.{Token, token, tokenOf, words, tokens, keys, present, value, none, lastOnly, keyed, wordOf, space, equals}
 use Rattle.line_groups.specs.Rules.{deflated}
 use Rattle.line_groups.specs.Answers.{lenOf}
 use Rattle.line.specs.Reading.{ihave, verbWord, idWord, restOf, isText, framed, wellFormed, chkRight, refusalOf}
@@ -29,10 +29,6 @@ abbrev pub chkPart : List ℕ → List ℕ
 chkPart d = space ∷ wordOf (token keyChk d)
 
 -- ---- the last word
-
-or-no : (a b : Bool) → a or b ≡ false → (a ≡ false) × (b ≡ false)
-or-no true b e = true-not-false true refl e
-or-no false b e = (refl, e)
 
 onto-append : (x : ℕ) (a b : List (List ℕ)) → 0 < length a → onto x (a ++ b) ≡ onto x a ++ b
 onto-append x [] b h = absurd (omega arith)
@@ -90,8 +86,8 @@ module _ (d : List ℕ) where
   abbrev last : List Token
   last = token keyChk d ∷ []
 
-  last-value : (ts : List Token) → lastOnly keyChk (keys (ts ++ last)) ≡ true → (given keyChk (ts ++ last) ≡ true) × (value keyChk (ts ++ last) ≡ d)
-  unfolding same given value lastOnly
+  last-value : (ts : List Token) → lastOnly keyChk (keys (ts ++ last)) ≡ true → (present keyChk (ts ++ last) ≡ true) × (value keyChk (ts ++ last) ≡ d)
+  unfolding same present value lastOnly
   last-value [] e = (refl, refl)
   last-value (t ∷ ts) e =
       let n = or-false (same keyChk (t .key)) (none (keys (ts ++ last))) (and-left _ _ e) (none-last ts (token keyChk d)) in
@@ -162,7 +158,7 @@ module _ (u d : List ℕ) (hex : isHex 4 d ≡ true) where
       let k = line-keyed (f .0) in
       let t = found k in
       let v = last-value d (t .0) (ap (λ (l : List Token). lastOnly keyChk (keys l)) (sym (t .1)) ∙ chk-last k) in
-      let g = ap (given keyChk) (t .1) ∙ v .0 in
+      let g = ap (present keyChk) (t .1) ∙ v .0 in
       ap crc16 (sym covered)
       ∙ eqb-true (crc16 (take (length line - 9) line)) (hexValue (value keyChk (tokens (restOf line)))) (sym (if-yes _ _ _ g) ∙ f .1)
       ∙ ap hexValue (ap (value keyChk) (t .1) ∙ v .1)

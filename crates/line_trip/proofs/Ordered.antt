@@ -1,5 +1,5 @@
 -- THEOREM: an accepted line in the writer's order, with `chk`, is written again byte for byte.
-use Prim.Native.Nat.{ℕ, suc, _+_, _-_, _≤_}
+use Prim.Native.Nat.{ℕ, suc, _-_}
 use mathlib.Core.Path.{_≡_, refl, ap, sym, _∙_}
 use mathlib.Core.Bool.{Bool, true, false}
 use mathlib.Core.List.{List, [], _∷_, _++_, map, append-assoc, append-nil}
@@ -24,7 +24,7 @@ use Rattle.names.specs.Reserved.{reserved, keyLen, keyFmt, keyS, keyDst, keyChk
 use Rattle.headers.specs.Keys.{allDiffer, keyOf}
 use Rattle.headers.specs.Rule.{valueOf, header}
 use Rattle.tokens.specs.Cuts.{has, before, after, onto, split}
-use Rattle.tokens.specs.Tokens.{Token, token, tokenOf, words, tokens, keys, given, value, others, keyed, space, equals, wordOf, spaced}
+use Rattle.tokens.specs.Tokens.{Token, token, tokenOf, words, tokens, keys, present, value, others, keyed, space, equals, wordOf, spaced}
 use Rattle.tokens.proofs.Lookups.{value-missing}
 use Rattle.envelope.specs.Texts.{fitted, callText, addressText, streamText, headerText}
 use Rattle.envelope.specs.Rules.{callBytes, addressBytes, streamBytes, callIn, addressIn, streamIn}
@@ -34,7 +34,7 @@ use Rattle.line_places.specs.Headers.{shortValue, headersFit, headerOf, headers
 use Rattle.line.specs.Reading.{ihave, verbWord, idWord, restOf, framed, fieldsOf, lineOf, chkRight, refusalOf}
 use Rattle.line.specs.Writing.{Choice, chosen, partText, choicesOf, headerToken, headerTokens, dstToken, tokensOf, bodyOf, chkToken, printOf}
 use Rattle.line.specs.declared.Line.{Line}
-use Rattle.line_trip.specs.Order.{firstKeys, present, InOrder}
+use Rattle.line_trip.specs.Order.{firstKeys, presentAmong, InOrder}
 use Rattle.line_trip.proofs.Lookups.{not-no}
 use Rattle.line_trip.proofs.Cuts.{map-append}
 use Rattle.line_trip.proofs.Values.{when-set}
@@ -187,12 +187,12 @@ module _ (ts : List Token) where
   others-looked-up d = each-look (others ts) (each-other ts (each-from [] ts refl d))
 
   -- the keys that are there, looked up, against the writer's choices
-  chosen-next : (c : Choice) (cs : List Choice) (k : List ℕ) (ks : List (List ℕ)) → c .on ≡ given k ts → (given k ts ≡ true → c .what ≡ look k)
-      → map look (present ts ks) ≡ chosen cs → map look (present ts (k ∷ ks)) ≡ chosen (c ∷ cs)
+  chosen-next : (c : Choice) (cs : List Choice) (k : List ℕ) (ks : List (List ℕ)) → c .on ≡ present k ts → (present k ts ≡ true → c .what ≡ look k)
+      → map look (presentAmong ts ks) ≡ chosen cs → map look (presentAmong ts (k ∷ ks)) ≡ chosen (c ∷ cs)
   unfolding chosen
-  chosen-next c cs k ks on what rest = rw on (go (given k ts) refl)
+  chosen-next c cs k ks on what rest = rw on (go (present k ts) refl)
     where
-      go : (b : Bool) → given k ts ≡ b → map look (if b then (k ∷ present ts ks) else present ts ks) ≡ (if b then (c .what ∷ chosen cs) else chosen cs)
+      go : (b : Bool) → present k ts ≡ b → map look (if b then (k ∷ presentAmong ts ks) else presentAmong ts ks) ≡ (if b then (c .what ∷ chosen cs) else chosen cs)
       go true e = rw (what e, rest)
       go false e = rest
 
@@ -200,19 +200,19 @@ module _ (ts : List Token) where
   Matches [] [] = Unit
   Matches [] (k ∷ ks) = ⊥
   Matches (c ∷ cs) [] = ⊥
-  Matches (c ∷ cs) (k ∷ ks) = ((c .on ≡ given k ts) × (given k ts ≡ true → c .what ≡ look k)) × Matches cs ks
+  Matches (c ∷ cs) (k ∷ ks) = ((c .on ≡ present k ts) × (present k ts ≡ true → c .what ≡ look k)) × Matches cs ks
 
-  pub chosen-all : (cs : List Choice) (ks : List (List ℕ)) → Matches cs ks → map look (present ts ks) ≡ chosen cs
+  pub chosen-all : (cs : List Choice) (ks : List (List ℕ)) → Matches cs ks → map look (presentAmong ts ks) ≡ chosen cs
   unfolding chosen
   chosen-all [] [] e = refl
   chosen-all [] (k ∷ ks) e = absurd e
   chosen-all (c ∷ cs) [] e = absurd e
   chosen-all (c ∷ cs) (k ∷ ks) e = chosen-next c cs k ks (e .0 .0) (e .0 .1) (chosen-all cs ks (e .1))
 
-  pub given-by : (p : List ℕ → Bool) (k : List ℕ) → p [] ≡ false → p (value k ts) ≡ true → given k ts ≡ true
-  given-by p k none e = go (given k ts) refl
+  pub present-by : (p : List ℕ → Bool) (k : List ℕ) → p [] ≡ false → p (value k ts) ≡ true → present k ts ≡ true
+  present-by p k none e = go (present k ts) refl
     where
-      go : (b : Bool) → given k ts ≡ b → b ≡ true
+      go : (b : Bool) → present k ts ≡ b → b ≡ true
       go true g = refl
       go false g = sym none ∙ ap p (sym (value-missing k ts g)) ∙ e
 
@@ -301,59 +301,59 @@ module _ (s : List ℕ) (ok : refusalOf s ≡ 0) (ordered : InOrder (tokens (res
       go true e = refl
       go false e = true-not-false (deflated ts) e (k .raw)
 
-  s-rule : given keyS ts ≡ true → isSigned (value keyS ts) ≡ true
+  s-rule : present keyS ts ≡ true → isSigned (value keyS ts) ≡ true
   unfolding singlesGood
-  s-rule = when-set (given keyS ts) (isSigned (value keyS ts)) (and-left (optional keyS isSigned ts) _ (k .singles))
+  s-rule = when-set (present keyS ts) (isSigned (value keyS ts)) (and-left (optional keyS isSigned ts) _ (k .singles))
 
-  ttl-good : given keyTtl ts ≡ true → isNumber 2147483647 (value keyTtl ts) ≡ true
+  ttl-good : present keyTtl ts ≡ true → isNumber 2147483647 (value keyTtl ts) ≡ true
   unfolding singlesGood
   ttl-good =
-      when-set (given keyTtl ts) (isNumber 2147483647 (value keyTtl ts))
+      when-set (present keyTtl ts) (isNumber 2147483647 (value keyTtl ts))
       (and-left (optional keyTtl (isNumber 2147483647) ts) _ (and-right (optional keyS isSigned ts) _ (k .singles)))
 
-  chk-good : given keyChk ts ≡ true → isHex 4 (value keyChk ts) ≡ true
+  chk-good : present keyChk ts ≡ true → isHex 4 (value keyChk ts) ≡ true
   unfolding singlesGood
   chk-good =
-      when-set (given keyChk ts) (isHex 4 (value keyChk ts))
+      when-set (present keyChk ts) (isHex 4 (value keyChk ts))
       (and-right (optional keyTtl (isNumber 2147483647) ts) _ (and-right (optional keyS isSigned ts) _ (k .singles)))
 
-  mid-good : given keyMid ts ≡ true → isHex 7 (value keyMid ts) ≡ true
+  mid-good : present keyMid ts ≡ true → isHex 7 (value keyMid ts) ≡ true
   unfolding fragmentGood
-  mid-good = when-set (given keyMid ts) (isHex 7 (value keyMid ts)) (and-left (optional keyMid (isHex 7) ts) _ (and-right (alike (given keyMid ts) (given keyFrag ts)) _ (k .fragment)))
+  mid-good = when-set (present keyMid ts) (isHex 7 (value keyMid ts)) (and-left (optional keyMid (isHex 7) ts) _ (and-right (alike (present keyMid ts) (present keyFrag ts)) _ (k .fragment)))
 
-  frag-good : given keyFrag ts ≡ true → isPart (value keyFrag ts) ≡ true
+  frag-good : present keyFrag ts ≡ true → isPart (value keyFrag ts) ≡ true
   unfolding fragmentGood
-  frag-good = when-set (given keyFrag ts) (isPart (value keyFrag ts)) (and-right (optional keyMid (isHex 7) ts) _ (and-right (alike (given keyMid ts) (given keyFrag ts)) _ (k .fragment)))
+  frag-good = when-set (present keyFrag ts) (isPart (value keyFrag ts)) (and-right (optional keyMid (isHex 7) ts) _ (and-right (alike (present keyMid ts) (present keyFrag ts)) _ (k .fragment)))
 
   numbers : optional keySn (isNumber 4294967295) ts and optional keyGt (isNumber 4294967295) ts ≡ true
   unfolding streamGood
-  numbers = and-right (alike (given keySid ts) (given keyGt ts)) _ (and-right (alike (given keySid ts) (given keySn ts)) _ (k .stream))
+  numbers = and-right (alike (present keySid ts) (present keyGt ts)) _ (and-right (alike (present keySid ts) (present keySn ts)) _ (k .stream))
 
-  sn-good : given keySn ts ≡ true → isNumber 4294967295 (value keySn ts) ≡ true
-  sn-good = when-set (given keySn ts) (isNumber 4294967295 (value keySn ts)) (and-left (optional keySn (isNumber 4294967295) ts) _ numbers)
+  sn-good : present keySn ts ≡ true → isNumber 4294967295 (value keySn ts) ≡ true
+  sn-good = when-set (present keySn ts) (isNumber 4294967295 (value keySn ts)) (and-left (optional keySn (isNumber 4294967295) ts) _ numbers)
 
-  gt-good : given keyGt ts ≡ true → isNumber 4294967295 (value keyGt ts) ≡ true
-  gt-good = when-set (given keyGt ts) (isNumber 4294967295 (value keyGt ts)) (and-right (optional keySn (isNumber 4294967295) ts) _ numbers)
+  gt-good : present keyGt ts ≡ true → isNumber 4294967295 (value keyGt ts) ≡ true
+  gt-good = when-set (present keyGt ts) (isNumber 4294967295 (value keyGt ts)) (and-right (optional keySn (isNumber 4294967295) ts) _ numbers)
 
-  choices : map (look ts) (present ts firstKeys) ≡ chosen (choicesOf m)
+  choices : map (look ts) (presentAmong ts firstKeys) ≡ chosen (choicesOf m)
   unfolding choicesOf lineOf fieldsOf same
   choices =
       chosen-all ts (choicesOf m) firstKeys (
-        (sym (given-by ts (isNumber 2147483647) keyLen refl len-good), λ g. decimals 2147483647 keyLen len-good),
+        (sym (present-by ts (isNumber 2147483647) keyLen refl len-good), λ g. decimals 2147483647 keyLen len-good),
         (
-          (sym (given-by ts (λ v. same v 'p') keyFmt refl fmt-p), λ g. ap (token keyFmt) (sym (same-eq (value keyFmt ts) 'p' fmt-p))),
+          (sym (present-by ts (λ v. same v 'p') keyFmt refl fmt-p), λ g. ap (token keyFmt) (sym (same-eq (value keyFmt ts) 'p' fmt-p))),
           (
             (refl, λ g. ap (token keyS) (signed-forth (value keyS ts) (s-rule g))),
             (
               (refl, λ g. decimals 2147483647 keyTtl (ttl-good g)),
               (
-                (refl, λ g. ap (token keySrc) (call-whole (value keySrc ts) (when-set (given keySrc ts) _ (rules .src-rule) g))),
+                (refl, λ g. ap (token keySrc) (call-whole (value keySrc ts) (when-set (present keySrc ts) _ (rules .src-rule) g))),
                 (
                   (refl, λ g. ap (token keyMid) (hex-forth 7 (value keyMid ts) (mid-good g))),
                   (
                     (mid-frag s ok, λ g. ap (token keyFrag) (part-again (value keyFrag ts) (frag-good g))),
                     (
-                      (refl, λ g. ap (token keySid) (stream-whole (value keySid ts) (when-set (given keySid ts) _ (rules .stream-rule) g))),
+                      (refl, λ g. ap (token keySid) (stream-whole (value keySid ts) (when-set (present keySid ts) _ (rules .stream-rule) g))),
                       (
                         (sid-sn s ok, λ g. decimals 4294967295 keySn (sn-good g)),
                         (
@@ -388,17 +388,17 @@ module _ (s : List ℕ) (ok : refusalOf s ≡ 0) (ordered : InOrder (tokens (res
       let hs = headerTokens (m .fields .headers) in
       sym (looked-up ts (keys-differ s (k .frame)))
       ∙ ap (map (look ts)) ordered
-      ∙ map-append (look ts) (present ts firstKeys) (keys (others ts) ++ (keyDst ∷ keyChk ∷ []))
-      ∙ ap (λ (l : List Token). map (look ts) (present ts firstKeys) ++ l) (map-append (look ts) (keys (others ts)) (keyDst ∷ keyChk ∷ []))
+      ∙ map-append (look ts) (presentAmong ts firstKeys) (keys (others ts) ++ (keyDst ∷ keyChk ∷ []))
+      ∙ ap (λ (l : List Token). map (look ts) (presentAmong ts firstKeys) ++ l) (map-append (look ts) (keys (others ts)) (keyDst ∷ keyChk ∷ []))
       ∙ rw (choices, header-tokens, dst-is)
       (sym (append-assoc (chosen (choicesOf m)) (hs ++ (dstToken m ∷ [])) (look ts keyChk ∷ [])
       ∙ ap (λ (l : List Token). chosen (choicesOf m) ++ l) (append-assoc hs (dstToken m ∷ []) (look ts keyChk ∷ []))))
 
-  chk-there : given keyChk ts ≡ true
-  unfolding given same
+  chk-there : present keyChk ts ≡ true
+  unfolding present same
   chk-there =
       ap (some (same keyChk)) ordered
-      ∙ some-right (same keyChk) (present ts firstKeys) (keys (others ts) ++ (keyDst ∷ keyChk ∷ [])) (some-right (same keyChk) (keys (others ts)) (keyDst ∷ keyChk ∷ []) refl)
+      ∙ some-right (same keyChk) (presentAmong ts firstKeys) (keys (others ts) ++ (keyDst ∷ keyChk ∷ [])) (some-right (same keyChk) (keys (others ts)) (keyDst ∷ keyChk ∷ []) refl)
 
   abbrev digits : List ℕ
   digits = value keyChk ts

@@ -1,4 +1,3 @@
--- Laws of drafts and of the line that is written, and what the public contract must show.
-pub mod Drafts
+-- Laws of the line that is written, and what the public contract must show.
 pub mod Whole
 pub mod Unique

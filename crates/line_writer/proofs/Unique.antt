@@ -1,5 +1,5 @@
 -- Every public function leaves one outcome and asks nothing.
-use mathlib.Core.Path.{_≡_, refl, sym, _∙_}
+use mathlib.Core.Path.{_≡_, sym, _∙_}
 use Rattle.octets.specs.Unique.{One, Free}
 use Rattle.line_writer.specs.Answer.{says}
 use Rattle.line_writer.specs.declared.LineWriting.{LineWriting}

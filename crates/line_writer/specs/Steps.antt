@@ -1,14 +1,11 @@
--- What the private functions promise one another; no public promise speaks of it.
+-- What the private function promises; no public promise speaks of it.
 use Prim.Native.Nat.{ℕ}
-use mathlib.Core.List.{List, [], _∷_, _++_}
-use Rattle.tokens.specs.Tokens.{Token, space, equals}
-use Rattle.line_draft.specs.Draft.{Draft, added}
+use mathlib.Core.List.{List, _++_}
+use Rattle.text.specs.Hex.{hexDigits}
+use Rattle.names.specs.Reserved.{keyChk}
+use Rattle.crc16.specs.Crc.{crc16}
+use Rattle.line_body.specs.Steps.{keyPart}
 
--- a space, a key and `=`
-abbrev pub keyPart : List ℕ → List ℕ
-keyPart k = space ∷ (k ++ (equals ∷ []))
-
--- tokens more
-unfoldable pub addTokens : List Token → Draft → Draft
-addTokens [] d = d
-addTokens (t ∷ ts) d = addTokens ts (added (t .value) (added (keyPart (t .key)) d))
+-- ` chk=`, and the check of a body
+abbrev pub chkText : List ℕ → List ℕ
+chkText body = keyPart keyChk ++ hexDigits 4 (crc16 body)

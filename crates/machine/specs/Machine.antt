@@ -30,15 +30,15 @@ module _ {S E : Type 0} where
   before w es t = record { state = t .state; reply = w ++ t .reply; happened = es ++ t .happened }
 
   abbrev pub seenAfter : (E → List E) → Fed S E → (S → Seen S E) → Seen S E
-  seenAfter told (quiet s) f = f s
-  seenAfter told (stop s w e) f = before w (told e) (f s)
+  seenAfter noted (quiet s) f = f s
+  seenAfter noted (stop s w e) f = before w (noted e) (f s)
 
   -- a call on a piece, at k bytes used before; `none` is what happens where no byte stops the call
   abbrev pub run : (S → ℕ → Fed S E) → E → ℕ → S → List ℕ → Out S E
   run feed none k s [] = record { used = k; state = s; reply = []; happened = none }
   run feed none k s (b ∷ bs) = after (feed s b) k (λ t. run feed none (k + 1) t bs)
 
-  -- the whole stream, byte by byte; `told e` is what the host notes of e
+  -- the whole stream, byte by byte; `noted e` is what the host notes of e
   abbrev pub seen : (S → ℕ → Fed S E) → (E → List E) → S → List ℕ → Seen S E
-  seen feed told s [] = record { state = s; reply = []; happened = [] }
-  seen feed told s (b ∷ bs) = seenAfter told (feed s b) (λ t. seen feed told t bs)
+  seen feed noted s [] = record { state = s; reply = []; happened = [] }
+  seen feed noted s (b ∷ bs) = seenAfter noted (feed s b) (λ t. seen feed noted t bs)

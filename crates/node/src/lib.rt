@@ -37,6 +37,7 @@ pub use layout::Datagram;
 pub use layout::Hops;
 
 // ---- the receiving session
+pub use refusals::LONGEST_PAYLOAD;
 pub use session::LONGEST_REPLY;
 pub use session::Opened;
 pub use session::Step;

@@ -1,4 +1,3 @@
--- Facts about the lines and the replies.
+-- Facts about the lines.
 pub mod Verbs
-pub mod Joins
 pub mod Unique

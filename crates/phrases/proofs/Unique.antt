@@ -5,8 +5,6 @@ use Rattle.phrases.proofs.kind_of.Kinds as kind-of-kinds
 use Rattle.phrases.proofs.kind_of.Reads as kind-of-reads
 use Rattle.phrases.proofs.is_data.Kinds as is-data-kinds
 use Rattle.phrases.proofs.is_data.Reads as is-data-reads
-use Rattle.phrases.proofs.say.Kinds as say-kinds
-use Rattle.phrases.proofs.say.Reads as say-reads
 
 pub kind-of-one : One 1 kind-of-kinds.ps kind-of-kinds.r kind-of-reads.Post
 kind-of-one κs a x y v w p q = (p ∙ sym q, refl)
@@ -19,9 +17,3 @@ is-data-one κs a x y v w p q = (p ∙ sym q, refl)
 
 pub is-data-free : Free 1 is-data-kinds.ps is-data-reads.Pre
 is-data-free κs a = tt
-
-pub say-one : One 2 say-kinds.ps say-kinds.r say-reads.Post
-say-one κs a x y v w p q = (p .0 ∙ sym (q .0), λ i. (tt, (tt, ((p .1 ∙ sym (q .1)) i, tt))))
-
-pub say-free : Free 2 say-kinds.ps say-reads.Pre
-say-free κs a = tt

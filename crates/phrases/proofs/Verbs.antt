@@ -1,32 +1,30 @@
--- Words: what begins a line, what a line spells in any letter case, and the token that is said again.
+-- Words: what begins a line, and what a line spells in any letter case.
 use mathlib.Core.Path.{_≡_, refl, sym, ap, _∙_}
 use Prim.Native.Nat.{ℕ, zero, suc, _+_, _-_, _≤_, _<_}
 use native.Mathlib.Omega.{arith}
 use native.Mathlib.Numerals.{add-one}
 use mathlib.Core.Bool.{Bool, true, false}
-use mathlib.Core.List.{List, [], _∷_, _++_, map}
-use lib.ListN.{length, take, drop, getD, length-take, length-drop, length-append, drop-of-length-le, length-map}
+use mathlib.Core.List.{List, [], _∷_, _++_, map, append-nil}
+use lib.ListN.{length, take, drop, replicate, getD, length-take, length-append, drop-of-length-le, length-map}
 use lib.Seq.{take-suc, take-all, take-append-seam}
 use borrow.Author.Tests.{eq-eqb, ne-eqb}
-use Rattle.octets.specs.Words.{_and_, _or_, some, every, between, _=?_}
-use Rattle.octets.specs.Bytes.{same}
+use Rattle.octets.specs.Words.{_and_, _or_, some, _=?_}
+use Rattle.octets.specs.Bytes.{same, placed}
 use Rattle.octets.proofs.Tests.{if-yes, if-no, or-next, or-left, and-next, and-not-left, true-not-false, inside, below, above}
-use Rattle.octets.proofs.Lists.{same-refl, same-eq, same-short, drop-next, every-next, every-not}
-use Rattle.tokens.specs.Cuts.{before}
+use Rattle.octets.proofs.Lists.{same-refl, same-eq, same-short, drop-next, placed-in}
+use Rattle.text.specs.Hex.{hexDigits}
+use Rattle.text.proofs.Numerals.{length-digits}
 use Rattle.phrases.specs.declared.Kind.{Kind}
-use Rattle.phrases.specs.Lines.{ihave, data-word, verb, lower, spells, leaving, asking, kindOf, tokenOf, tokenGood}
+use Rattle.phrases.specs.Lines.{ihave, data-word, verb, lower, spells, leaving, asking, kindOf, isData}
 
 -- a test that is true only where something false holds is false
 refuted : (b : Bool) → (b ≡ true → ⊥) → b ≡ false
 refuted true f = absurd (f refl)
 refuted false f = refl
 
--- a part from the start, and a part up to the end
+-- a part from the start
 pub from-start : (n : ℕ) (s w : List ℕ) → same (take (n - 0) s) w ≡ same (take n s) w
 from-start n s w = let z : n - 0 ≡ n = omega arith in ap (λ (k : ℕ). same (take k s) w) z
-
-to-end : (n : ℕ) (s : List ℕ) → take (length s - n) (drop n s) ≡ drop n s
-to-end n s = take-all (length s - n) (drop n s) (rw length-drop (omega arith))
 
 -- ---- a word, or the word and a space
 
@@ -104,37 +102,6 @@ pub spells-end : (s w : List ℕ) (i : ℕ) → i ≡ length s → i ≡ length 
 unfolding spells same
 spells-end s w i h k = rw (drop-of-length-le s {i = i} (omega arith), drop-of-length-le w {i = i} (omega arith))
 
--- ---- the token
-
-pub token-none : (s : List ℕ) → length s < 6 → tokenOf s ≡ []
-unfolding before
-token-none s h = rw (drop-of-length-le s {i = 6} (omega arith))
-
-pub token-part : (s t : List ℕ) → t ≡ before 0x20 (take (length s - 6) (drop 6 s)) → t ≡ tokenOf s
-token-part s t e = e ∙ ap (before 0x20) (to-end 6 s)
-
-pub good-none : (t : List ℕ) → length t < 1 → tokenGood t ≡ false
-unfolding tokenGood
-good-none t h = and-not-left _ _ (below 1 7 (length t) h)
-
-pub good-long : (t : List ℕ) → 7 < length t → tokenGood t ≡ false
-unfolding tokenGood
-good-long t h = and-not-left _ _ (above 1 7 (length t) h)
-
-pub good-rest : (t : List ℕ) → 1 ≤ length t → length t ≤ 7 → tokenGood t ≡ every (between 0x21 0x7E) t
-unfolding tokenGood
-good-rest t h k = and-next _ _ (inside 1 7 (length t) h k)
-
--- a byte that a token may not have, and one that it may
-pub byte-low : (t : List ℕ) (i : ℕ) → i < length t → getD t i 0 < 0x21 → every (between 0x21 0x7E) (drop i t) ≡ false
-byte-low t i h b = every-not (between 0x21 0x7E) t i 0 h (below 0x21 0x7E (getD t i 0) b)
-
-pub byte-high : (t : List ℕ) (i : ℕ) → i < length t → 0x7E < getD t i 0 → every (between 0x21 0x7E) (drop i t) ≡ false
-byte-high t i h b = every-not (between 0x21 0x7E) t i 0 h (above 0x21 0x7E (getD t i 0) b)
-
-pub byte-good : (t : List ℕ) (i : ℕ) → i < length t → 0x21 ≤ getD t i 0 → getD t i 0 ≤ 0x7E → every (between 0x21 0x7E) (drop i t) ≡ every (between 0x21 0x7E) (drop (i + 1) t)
-byte-good t i h b c = every-next (between 0x21 0x7E) t i 0 h (inside 0x21 0x7E (getD t i 0) b c)
-
 -- ---- the kind
 
 module _ (s : List ℕ) (i : verb ihave s ≡ false) (d : verb data-word s ≡ false) where
@@ -149,3 +116,19 @@ module _ (s : List ℕ) (i : verb ihave s ≡ false) (d : verb data-word s ≡ f
   pub other-is : some (spells s) leaving ≡ false → some (spells s) asking ≡ false → kindOf s ≡ Kind.Other
   unfolding kindOf
   other-is l a = if-no _ _ _ i ∙ if-no _ _ _ d ∙ if-no _ _ _ l ∙ if-no _ _ _ a
+
+-- ---- `data ID`
+
+-- `data ` and seven digits in the place of seven noughts
+pub data-line : (id : ℕ) → placed (hexDigits 7 id) 5 (data-word ++ (0x20 ∷ replicate 7 48)) ≡ data-word ++ (0x20 ∷ hexDigits 7 id)
+data-line id =
+    let d = length-digits 16 7 id in
+    let z : 5 + length (hexDigits 7 id) ≡ 12 = omega arith in
+    placed-in (hexDigits 7 id) 5 (data-word ++ (0x20 ∷ replicate 7 48)) (omega arith)
+    ∙ ap (λ (n : ℕ). data-word ++ (0x20 ∷ (hexDigits 7 id ++ drop n (data-word ++ (0x20 ∷ replicate 7 48))))) z
+    ∙ ap (λ (l : List ℕ). data-word ++ (0x20 ∷ l)) (append-nil (hexDigits 7 id))
+
+-- the line is `data ID`
+pub data-is : (id : ℕ) (b : Bool) (s l : List ℕ) → l ≡ placed (hexDigits 7 id) 5 (data-word ++ (0x20 ∷ replicate 7 48)) → b ≡ same s l → b ≡ isData id s
+unfolding isData
+data-is id b s l e f = f ∙ ap (same s) (e ∙ data-line id)

@@ -1,3 +1,2 @@
--- Document 01, "The receiving session": what a peer's line is, and what is said to it.
+-- Document 01, "The receiving session": what a peer's line is.
 pub mod Lines
-pub mod Replies

@@ -2,18 +2,18 @@
 use Prim.Native.Nat.{ℕ, _+_}
 use mathlib.Core.Bool.{Bool}
 use mathlib.Core.List.{List, [], _∷_, _++_, map}
-use lib.ListN.{length, take, drop}
-use Rattle.octets.specs.Words.{if_then_else_, _and_, _or_, some, every, between}
+use lib.ListN.{length, take}
+use Rattle.octets.specs.Words.{if_then_else_, _or_, some, between}
 use Rattle.octets.specs.Bytes.{same}
 use Rattle.text.specs.Hex.{hexDigits}
-use Rattle.tokens.specs.Cuts.{before}
 use Rattle.phrases.specs.declared.Kind.{Kind}
 use Rattle.phrases.specs.declared.Kind.the-variants.{Ihave, Data, Leave, Ask, Other}
 
--- `ihave`, `data`
+-- `ihave`: i, h, a, v, e
 abbrev pub ihave : List ℕ
 ihave = 105 ∷ 104 ∷ 97 ∷ 118 ∷ 101 ∷ []
 
+-- `data`: d, a, t, a
 abbrev pub data-word : List ℕ
 data-word = 100 ∷ 97 ∷ 116 ∷ 97 ∷ []
 
@@ -47,10 +47,3 @@ kindOf s =
 -- `data ID`
 unfoldable pub isData : ℕ → List ℕ → Bool
 isData id s = same s (data-word ++ (0x20 ∷ hexDigits 7 id))
-
--- the token after `ihave `, and whether it is said again: 1 to 7 bytes, all 0x21 to 0x7E
-abbrev pub tokenOf : List ℕ → List ℕ
-tokenOf s = before 0x20 (drop 6 s)
-
-unfoldable pub tokenGood : List ℕ → Bool
-tokenGood t = between 1 7 (length t) and every (between 0x21 0x7E) t

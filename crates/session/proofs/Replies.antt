@@ -16,16 +16,15 @@ use Rattle.sha1.specs.declared.Sha1.{Sha1}
 use Rattle.sha1.specs.Machine.{finished}
 use Rattle.sha1.specs.Id.{idNumber}
 use Rattle.line.specs.declared.Line.{Line}
-use Rattle.line.specs.Reading.{Reading}
-use Rattle.line.specs.Reading.{readOf}
+use Rattle.line.specs.Reading.{Reading, readOf}
 use Rattle.phrases.specs.declared.Kind.{Kind}
-use Rattle.phrases.specs.Lines.{kindOf, isData, tokenOf, tokenGood}
-use Rattle.phrases.specs.Replies.{LF, prompt, 'error', sends, errs, acks, bads, wrote}
+use Rattle.phrases.specs.Lines.{kindOf, isData}
+use Rattle.replies.specs.Replies.{LF, prompt, 'error', tokenOf, tokenGood, sends, errs, acks, bads, wrote}
 use Rattle.talk.specs.declared.Terms.{Terms}
 use Rattle.talk.specs.declared.Session.{Session}
-use Rattle.talk.specs.Sessions.{keepsTerms, salted, lineSoFar}
-use Rattle.talk.specs.Talk.{Turn, offered, completed, heardAs, heard, dataHeard}
-use Rattle.session.specs.Feed.{obeyed}
+use Rattle.talk.specs.declared.Stop.{Stop}
+use Rattle.talk.specs.Sessions.{keepsTerms, salted}
+use Rattle.talk.specs.Talk.{Turn, offered, completed, heardAs, heard, dataHeard, turnAt}
 
 -- a reply that fits
 pub at-front : (w l : List ℕ) → length w ≤ length l → (wrote w l ≡ length w) × (placed w 0 l ≡ front w l)
@@ -63,7 +62,7 @@ by-test : (b : Bool) (x y : Turn) → Short x → Short y → Short (if b then x
 by-test true x y p q = p
 by-test false x y p q = q
 
-pub completed-short : (t : Terms) (h : Sha1) → length (completed t h .reply) ≤ 24
+completed-short : (t : Terms) (h : Sha1) → length (completed t h .reply) ≤ 24
 unfolding completed
 completed-short t h = by-test (idNumber (finished h) =? t .id) _ _ (acks-short (t .id)) (bads-short (t .id))
 
@@ -82,6 +81,9 @@ heard-short Kind.Leave s = omega arith
 heard-short Kind.Ask s = omega arith
 heard-short Kind.Other s = omega arith
 
-pub obeyed-short : (s : Session) → length (obeyed s .reply) ≤ 24
+pub turn-short : (x : Stop) (s : Session) (text : List ℕ) → length (turnAt x s text .reply) ≤ 24
 unfolding heard
-obeyed-short s = by-test (s .mode =? 0) _ _ (heard-short (kindOf (lineSoFar s)) (lineSoFar s)) (data-short (s .terms) (lineSoFar s))
+turn-short Stop.Quiet s text = omega arith
+turn-short Stop.Line s text = by-test (s .mode =? 0) _ _ (heard-short (kindOf text) text) (data-short (s .terms) text)
+turn-short Stop.Payload s text = completed-short (s .terms) (s .hash)
+turn-short Stop.Overlong s text = omega arith

@@ -1,165 +1,122 @@
--- What the code answers is what feeding the piece comes to.
-use mathlib.Core.Path.{_≡_, refl, sym, ap, _∙_, subst}
+-- What the code takes in and says is what feeding the piece comes to.
+use mathlib.Core.Path.{_≡_, refl, sym, ap, _∙_}
 use Prim.Native.Nat.{ℕ, _+_, _-_, _≤_, _<_}
 use native.Mathlib.Omega.{arith}
-use mathlib.Core.List.{List, []}
+use native.Mathlib.Decide.{decLe}
+use mathlib.Core.List.{List, [], _++_}
 use lib.ListN.{length, take, drop, getD, take-append-drop}
 use lib.Seq.{length-take-le, take-all}
-use borrow.Author.Tests.{eq-eqb, ne-eqb}
-use Rattle.octets.proofs.Tests.{if-yes, if-no}
-use Rattle.octets.specs.Bytes.{front, placed}
+use Rattle.octets.specs.Bytes.{placed}
 use Rattle.sha1.specs.declared.Sha1.{Sha1}
 use Rattle.sha1.specs.Machine.{fedAll}
-use Rattle.line.specs.declared.Line.{Line}
-use Rattle.line.specs.Reading.{blankLine}
+use Rattle.tokens.specs.Cuts.{before}
+use Rattle.replies.proofs.Joins.{silent}
 use Rattle.machine.specs.Machine.{Out, run}
 use Rattle.talk.specs.declared.Session.{Session}
+use Rattle.talk.specs.declared.Stop.{Stop}
 use Rattle.talk.specs.Answer.{Happening, Telling}
-use Rattle.talk.specs.Sessions.{closed, lineSoFar}
-use Rattle.talk.specs.Talk.{Turn, nothing, ended, closing, completed, heard, dataHeard, toldIn}
+use Rattle.talk.specs.Talk.{nothing, completed, toldIn}
+use Rattle.session.specs.declared.Intake.{Intake}
 use Rattle.session.specs.Answer as answer
-use Rattle.session.specs.Feed.{obeyed, pushed, feed}
-use Rattle.session.specs.Calls.{made}
-use Rattle.session.specs.Runs.{spoken, Gathered, Answers}
-use Rattle.session.proofs.Runs.{run-push, run-obey, run-over, run-end, received, run-payload, run-whole}
-use Rattle.session.proofs.Replies.{at-front, obeyed-short, completed-short}
-
--- the answer is known where the outcome is
-answers-by : (s : Session) (piece : List ℕ) (o : Out Session Happening) (r : answer.Record) (reply replyAfter : List ℕ) → run feed nothing 0 s piece ≡ o
-    → (r ≡ made o) × (replyAfter ≡ front (o .reply) reply) → Answers s piece r reply replyAfter
-answers-by s piece o r reply replyAfter e k = subst (λ (x : Out Session Happening). (r ≡ made x) × (replyAfter ≡ front (x .reply) reply)) (sym e) k
-
--- what a turn says, in a step
-spoken-as : (t : Turn) (used : ℕ) (reply : List ℕ) → length (t .reply) ≤ 24 → 24 ≤ length reply
-    → spoken used (toldIn t reply) ≡ made (record { used = used; state = t .next; reply = t .reply; happened = t .happening })
-spoken-as t used reply h k =
-    let w = at-front (t .reply) reply (omega arith) in λ i. record { answer = answer.made; used = used; happening = t .happening; written = w .0 i; next = t .next }
+use Rattle.session.specs.Feed.{feed}
+use Rattle.session.specs.Calls.{refused}
+use Rattle.session.specs.Runs.{turnOf, outOf, spoken}
+use Rattle.session.proofs.Runs.{run-line, run-long, run-obey, run-end, before-within, before-stops, grown, received, run-payload, run-whole}
 
 -- ---- the records
 
-abbrev still : answer.Answer → ℕ → Line → Session → answer.Record
-still a used m s = record { answer = a; used = used; happening = record { what = nothing .what; line = m }; written = 0; next = s }
+pub told-as : (a : answer.Answer) (t : Intake) (reply after : List ℕ) (x : Telling) → (x ≡ toldIn (turnOf t) reply) × (after ≡ placed (turnOf t .reply) 0 reply)
+    → (_≡_ {A = answer.Record} (record { answer = a; used = t .used; happening = x .happening; written = x .written; next = x .next }) (spoken a t reply)) × (after ≡ placed (turnOf t .reply) 0 reply)
+told-as a t reply after x k = (ap {B = answer.Record} (λ (y : Telling). record { answer = a; used = t .used; happening = y .happening; written = y .written; next = y .next }) (k .0), k .1)
 
-pub still-is : (a : answer.Answer) (used : ℕ) (m : Line) (s : Session) → m ≡ blankLine → still a used m s ≡ still a used blankLine s
-still-is a used m s e = ap (λ (x : Line). still a used x s) e
-
-module _ (s : Session) (used : ℕ) (r : answer.Record) (line : List ℕ) (x : Telling) (reply after : List ℕ) (l : line ≡ lineSoFar s) where
-  turn-said : (t u : Turn) → u ≡ t → r ≡ spoken used x → (x ≡ toldIn t reply) × (after ≡ placed (t .reply) 0 reply)
-      → (r ≡ spoken used (toldIn u reply)) × (after ≡ placed (u .reply) 0 reply)
-  turn-said t u e k h =
-      (k ∙ ap (spoken used) (h .0) ∙ ap (λ (y : Turn). spoken used (toldIn y reply)) (sym e), h .1 ∙ ap (λ (y : Turn). placed (y .reply) 0 reply) (sym e))
-
-  pub obeyed-first : s .mode ≡ 0 → r ≡ spoken used x → (x ≡ toldIn (heard line) reply) × (after ≡ placed (heard line .reply) 0 reply)
-      → (r ≡ spoken used (toldIn (obeyed s) reply)) × (after ≡ placed (obeyed s .reply) 0 reply)
-  obeyed-first m k h = turn-said (heard line) (obeyed s) (if-yes _ _ _ (eq-eqb _ _ m) ∙ ap heard (sym l)) k h
-
-  pub obeyed-data : (s .mode ≡ 0 → ⊥) → r ≡ spoken used x → (x ≡ toldIn (dataHeard (s .terms) line) reply) × (after ≡ placed (dataHeard (s .terms) line .reply) 0 reply)
-      → (r ≡ spoken used (toldIn (obeyed s) reply)) × (after ≡ placed (obeyed s .reply) 0 reply)
-  obeyed-data m k h = turn-said (dataHeard (s .terms) line) (obeyed s) (if-no _ _ _ (ne-eqb _ _ m) ∙ ap (dataHeard (s .terms)) (sym l)) k h
-
--- ---- quiet bytes of a line
-
--- how far the loop is, at i
-pub record Far (s : Session) (piece : List ℕ) (i : ℕ) (t : Session) : Type 0 where
-  pub within : i ≤ length piece
-  pub len : t .«line_len» ≡ s .«line_len» + i
-  pub full : t .«line_len» ≤ 512
-  pub mode : t .mode ≡ s .mode
-  pub same : run feed nothing 0 s piece ≡ run feed nothing i t (drop i piece)
-
-pub far-start : (s : Session) (piece : List ℕ) → s .«line_len» ≤ 512 → Far s piece 0 s
-far-start s piece h = record { within = omega arith; len = omega arith; full = h; mode = refl; same = refl }
-
-module _ (s : Session) (piece : List ℕ) (i : ℕ) (t : Session) (f : Far s piece i t) where
-  pub far-next : s .mode ≤ 1 → i < length piece → (getD piece i 0 ≡ 10 → ⊥) → (t .«line_len» ≡ 512 → ⊥) → Far s piece (i + 1) (pushed t (getD piece i 0))
-  far-next m h n l =
-      let k : t .«line_len» < 512 = omega (arith, f .full) in
-      record {
-        within = omega arith;
-        len = omega (arith, f .len);
-        full = omega arith;
-        mode = f .mode;
-        same = f .same ∙ run-push piece i t h (omega (arith, f .mode)) n k;
-      }
-
-  pub far-gathered : (i < length piece → (getD piece i 0 ≡ 10 → ⊥) → t .«line_len» ≡ 512) → Gathered s piece t
-  far-gathered stops =
-      let e : i ≡ t .«line_len» - s .«line_len» = omega (arith, f .len) in
-      record {
-        from = omega (arith, f .len);
-        to = f .full;
-        within = omega (arith, f .within);
-        mode = f .mode;
-        same = subst (λ (n : ℕ). run feed nothing 0 s piece ≡ run feed nothing n t (drop n piece)) e (f .same);
-        stops = subst (λ (n : ℕ). n < length piece → (getD piece n 0 ≡ 10 → ⊥) → t .«line_len» ≡ 512) e stops;
-      }
+-- a refusal says nothing
+pub refused-as : (s : Session) (n : ℕ) (reply after : List ℕ) (r : answer.Record)
+    → (r ≡ spoken (answer.refused n) (record { used = 0; stop = Stop.Quiet; session = s }) reply) × (after ≡ placed [] 0 reply) → (r ≡ refused s [] n .answered) × (after ≡ reply)
+refused-as s n reply after r k =
+    let w = silent reply in
+    (k .0 ∙ (λ i. record { answer = answer.refused n; used = 0; happening = nothing; written = sym (w .0) i; next = s }), k .1 ∙ sym (w .1))
 
 -- ---- a line
 
-module _ (s t : Session) (piece reply : List ℕ) (m : s .mode ≤ 1) (g : Gathered s piece t) where
-  abbrev n : ℕ
-  n = t .«line_len» - s .«line_len»
+module _ (s : Session) (piece part line : List ℕ) (m : s .mode ≤ 1) (long : length (s .line) ≡ 512) (p : part ≡ before 10 piece) (q : line ≡ placed part (s .«line_len») (s .line)) where
+  -- the session with the line that the code has
+  abbrev held : Session
+  held = record { mode = s .mode; «line_len» = s .«line_len» + length part; line = line; terms = s .terms; got = s .got; hash = s .hash }
 
-  -- all of the piece was quiet
-  pub line-quiet : (r : answer.Record) → n ≡ length piece → r ≡ made (record { used = n; state = t; reply = []; happened = nothing }) → Answers s piece r reply reply
-  line-quiet r e k = answers-by s piece (record { used = n; state = t; reply = []; happened = nothing }) r reply reply (g .same ∙ run-end piece n t (omega arith)) (k, refl)
+  held-is : held ≡ grown s part
+  held-is = λ i. record { mode = s .mode; «line_len» = s .«line_len» + length part; line = q i; terms = s .terms; got = s .got; hash = s .hash }
 
-  low : t .mode ≤ 1
-  low = omega (arith, g .mode)
+  gathered : s .«line_len» + length part ≤ 512 → run feed nothing 0 s piece ≡ run feed nothing (length part) held (drop (length part) piece)
+  gathered h =
+      let z : 0 + length part ≡ length part = omega arith in
+      let g : s .«line_len» + length (before 10 piece) ≤ 512 = omega (arith, ap length p) in
+      run-line piece 0 s m long g
+      ∙ ap (λ (w : List ℕ). run feed nothing (0 + length w) (grown s w) (drop (length w) piece)) (sym p)
+      ∙ (λ i. run feed nothing (z i) (sym held-is i) (drop (length part) piece))
 
-  -- an LF: the line is whole
-  pub line-whole : (r : answer.Record) (replyAfter : List ℕ) → (n ≡ length piece → ⊥) → getD piece n 0 ≡ 10 → 24 ≤ length reply
-      → (r ≡ spoken (n + 1) (toldIn (obeyed t) reply)) × (replyAfter ≡ placed (obeyed t .reply) 0 reply) → Answers s piece r reply replyAfter
-  line-whole r replyAfter h b room k =
-      let o = obeyed t in
-      let w = at-front (o .reply) reply (omega (arith, obeyed-short t)) in
-      answers-by s piece (record { used = n + 1; state = o .next; reply = o .reply; happened = o .happening }) r reply replyAfter
-      (g .same ∙ run-obey piece n t (omega (arith, g .within)) low b) (k .0 ∙ spoken-as o (n + 1) reply (obeyed-short t) room, k .1 ∙ w .1)
+  within : length part ≤ length piece
+  within = omega (arith, before-within piece, ap length p)
 
-  -- a 513th byte
-  pub line-long : (r : answer.Record) (m₀ : Line) (x : Session) → (n ≡ length piece → ⊥) → (getD piece n 0 ≡ 10 → ⊥) → m₀ ≡ blankLine → x ≡ closed
-      → r ≡ record { answer = answer.made; used = n + 1; happening = record { what = ended 1 .what; line = m₀ }; written = 0; next = x } → Answers s piece r reply reply
-  line-long r m₀ x h b p c k =
-      let d : n < length piece = omega (arith, g .within) in
-      answers-by s piece (record { used = n + 1; state = closed; reply = []; happened = closing [] 1 .happening }) r reply reply
-      (g .same ∙ run-over piece n t d low b (omega (arith, g .stops d b)))
-      (k ∙ (λ i. record { answer = answer.made; used = n + 1; happening = record { what = ended 1 .what; line = p i }; written = 0; next = c i }), refl)
+  -- all of the piece was quiet; an LF: the line is whole
+  pub line-quiet : s .«line_len» + length part ≤ 512 → length part ≡ length piece → run feed nothing 0 s piece ≡ outOf (record { used = length part; stop = Stop.Quiet; session = held })
+  line-quiet h e = gathered h ∙ run-end piece (length part) held (omega arith)
+
+  pub line-whole : s .«line_len» + length part ≤ 512 → (length part ≡ length piece → ⊥) → run feed nothing 0 s piece ≡ outOf (record { used = length part + 1; stop = Stop.Line; session = held })
+  line-whole h e =
+      let d : length part < length piece = omega (arith, within) in
+      gathered h ∙ run-obey piece (length part) held d m (ap (λ (w : List ℕ). getD piece (length w) 0) p ∙ before-stops piece (omega (arith, ap length p)))
+
+-- a 513th byte
+pub line-long : (s : Session) (piece part : List ℕ) → s .mode ≤ 1 → s .«line_len» ≤ 512 → part ≡ before 10 piece → 512 - s .«line_len» < length part
+    → run feed nothing 0 s piece ≡ outOf (record { used = 512 - s .«line_len» + 1; stop = Stop.Overlong; session = s })
+line-long s piece part m l p h =
+    let z : 0 + (512 - s .«line_len» + 1) ≡ 512 - s .«line_len» + 1 = omega arith in
+    run-long piece 0 s m l (omega (arith, ap length p)) ∙ (λ i. record { used = z i; state = outOf (record { used = 0; stop = Stop.Overlong; session = s }) .state; reply = []; happened = outOf (record { used = 0; stop = Stop.Overlong; session = s }) .happened })
 
 -- ---- a payload
 
-module _ (s : Session) (piece pl pl₁ reply : List ℕ) (m : s .mode ≡ 2) (g : s .got < s .terms .len) where
-  -- what a call of a payload leaves: its answer, and the bytes used at their places
-  abbrev Receives : answer.Record → List ℕ → Type 0
-  Receives r replyAfter = Answers s piece r reply replyAfter × (pl₁ ≡ placed (take (run feed nothing 0 s piece .used) piece) (s .got) pl)
+-- what is taken of a piece, where n bytes are left: all of it, or n bytes
+taken-all : (n : ℕ) (piece : List ℕ) → length (take n piece) < n → take n piece ≡ piece
+taken-all n piece h = go (decLe n (length piece))
+  where
+    go : Dec (n ≤ length piece) → take n piece ≡ piece
+    go (yes e) = absurd (omega (arith, length-take-le n piece e))
+    go (no e) = take-all n piece (omega arith)
 
-  pub payload-part : (r : answer.Record) (h : Sha1) → s .got + length piece < s .terms .len → pl₁ ≡ placed piece (s .got) pl → h ≡ fedAll (s .hash) piece
-      → r ≡ made (record { used = length piece; state = record { mode = s .mode; «line_len» = s .«line_len»; line = s .line; terms = s .terms; got = s .got + length piece; hash = h }; reply = []; happened = nothing })
-      → Receives r reply
-  payload-part r h k p q e =
-      let z : 0 + length piece ≡ length piece = omega arith in
-      let o : run feed nothing 0 s piece ≡ record { used = length piece; state = received s piece; reply = []; happened = nothing } =
-      run-payload piece 0 s m k ∙ (λ i. record { used = z i; state = received s piece; reply = []; happened = nothing }) in (
-        answers-by s piece (record { used = length piece; state = received s piece; reply = []; happened = nothing }) r reply reply o
-            (e ∙ ap (λ (x : Sha1). made (record { used = length piece; state = record { mode = s .mode; «line_len» = s .«line_len»; line = s .line; terms = s .terms; got = s .got + length piece; hash = x }; reply = []; happened = nothing })) q, refl),
-        p ∙ ap (λ (w : List ℕ). placed w (s .got) pl) (sym (ap (λ (x : Out Session Happening). take (x .used) piece) o ∙ take-all (length piece) piece (omega arith))),
+taken-some : (n : ℕ) (piece : List ℕ) → n ≤ length (take n piece) → length (take n piece) ≡ n
+taken-some n piece h = go (decLe n (length piece))
+  where
+    go : Dec (n ≤ length piece) → length (take n piece) ≡ n
+    go (yes e) = length-take-le n piece e
+    go (no e) = absurd (omega (arith, ap length (take-all n piece (omega arith))))
+
+module _ (s : Session) (piece part pl pl₁ : List ℕ) (h : Sha1) (left : ℕ) (m : s .mode ≡ 2) (g : s .got < s .terms .len) (l : left ≡ s .terms .len - s .got) (p : part ≡ take left piece)
+    (q : pl₁ ≡ placed part (s .got) pl) (d : h ≡ fedAll (s .hash) part) where
+  abbrev next : Session
+  next = record { mode = s .mode; «line_len» = s .«line_len»; line = s .line; terms = s .terms; got = s .got + length part; hash = h }
+
+  next-is : next ≡ received s part
+  next-is = λ i. record { mode = s .mode; «line_len» = s .«line_len»; line = s .line; terms = s .terms; got = s .got + length part; hash = d i }
+
+  stored-as : part ≡ take (length part) piece → pl₁ ≡ placed (take (length part) piece) (s .got) pl
+  stored-as e = q ∙ ap (λ (w : List ℕ). placed w (s .got) pl) e
+
+  pub payload-part : length part < left → (run feed nothing 0 s piece ≡ outOf (record { used = length part; stop = Stop.Quiet; session = next })) × (pl₁ ≡ placed (take (length part) piece) (s .got) pl)
+  payload-part k =
+      let e : part ≡ piece = p ∙ taken-all left piece (omega (arith, ap length p)) in
+      let z : 0 + length part ≡ length part = omega arith in (
+        ap (run feed nothing 0 s) (sym e) ∙ run-payload part 0 s m (omega arith) ∙ (λ i. record { used = z i; state = sym next-is i; reply = []; happened = nothing }),
+        stored-as (e ∙ sym (take-all (length part) piece (omega (arith, ap length e)))),
       )
 
-  pub payload-whole : (r : answer.Record) (d : Sha1) (n : ℕ) (x : Telling) (replyAfter : List ℕ) → s .got + n ≡ s .terms .len → n ≤ length piece → 24 ≤ length reply
-      → pl₁ ≡ placed (take (n - 0) piece) (s .got) pl → d ≡ fedAll (s .hash) (take (n - 0) piece)
-      → r ≡ spoken n x → (x ≡ toldIn (completed (s .terms) d) reply) × (replyAfter ≡ placed (completed (s .terms) d .reply) 0 reply) → Receives r replyAfter
-  payload-whole r d n x replyAfter e le room p q y k =
-      let bs = take (n - 0) piece in
-      let c : length bs ≡ n = length-take-le (n - 0) piece (omega arith) ∙ omega arith in
-      let u = completed (s .terms) d in
-      let w = at-front (u .reply) reply (omega (arith, completed-short (s .terms) d)) in
-      let z : 0 + length bs ≡ n = omega arith in
-      let v : n - 0 ≡ n = omega arith in
-      let o : run feed nothing 0 s piece ≡ record { used = n; state = u .next; reply = u .reply; happened = u .happening } =
-      ap (run feed nothing 0 s) (sym (take-append-drop (n - 0) piece))
-      ∙ run-whole bs (drop (n - 0) piece) 0 s m g (omega arith)
-      ∙ ap (λ (h : Sha1). let t = completed (s .terms) h in record { used = 0 + length bs; state = t .next; reply = t .reply; happened = t .happening }) (sym q)
-      ∙ (λ i. record { used = z i; state = u .next; reply = u .reply; happened = u .happening }) in (
-        answers-by s piece (record { used = n; state = u .next; reply = u .reply; happened = u .happening }) r reply replyAfter o
-            (y ∙ ap (spoken n) (k .0) ∙ spoken-as u n reply (completed-short (s .terms) d) room, k .1 ∙ w .1),
-        p ∙ ap (λ (j : ℕ). placed (take j piece) (s .got) pl) (v ∙ sym (ap (λ (a : Out Session Happening). a .used) o)),
+  pub payload-whole : left ≤ length part → (run feed nothing 0 s piece ≡ outOf (record { used = length part; stop = Stop.Payload; session = next })) × (pl₁ ≡ placed (take (length part) piece) (s .got) pl)
+  payload-whole k =
+      let n : length part ≡ left = ap length p ∙ taken-some left piece (omega (arith, ap length p)) in
+      let z : 0 + length part ≡ length part = omega arith in
+      let t = completed (s .terms) h in (
+        ap (run feed nothing 0 s) (sym (take-append-drop left piece) ∙ ap (λ (w : List ℕ). w ++ drop left piece) (sym p))
+            ∙ run-whole part (drop left piece) 0 s m g (omega arith)
+            ∙ ap (λ (x : Sha1). let u = completed (s .terms) x in record { used = 0 + length part; state = u .next; reply = u .reply; happened = u .happening }) (sym d)
+            ∙ (λ i. record { used = z i; state = t .next; reply = t .reply; happened = t .happening }),
+        stored-as (p ∙ ap (λ (j : ℕ). take j piece) (sym n)),
       )

@@ -5,30 +5,26 @@ use lib.ListN.{length, take}
 use Rattle.octets.specs.Words.{if_then_else_, _or_, no, _<?_, _=?_}
 use Rattle.octets.specs.Bytes.{placed}
 use Rattle.refusals.specs.Numbers.{bufferTooShort, sessionClosed, stateBroken, longestPayload}
-use Rattle.phrases.specs.Replies.{prompt}
+use Rattle.replies.specs.Replies.{prompt}
 use Rattle.machine.specs.Machine.{Out, run}
 use Rattle.talk.specs.declared.Session.{Session}
 use Rattle.talk.specs.Answer.{Happening}
 use Rattle.talk.specs.Sessions.{listening, closed}
 use Rattle.talk.specs.Talk.{nothing}
+use Rattle.session_rules.specs.Rules.{keepsSession, longestReply}
 use Rattle.session.specs.Answer as answer
 use Rattle.session.specs.Feed.{feed}
-use Rattle.session.specs.Rules.{keepsSession}
-
--- no reply is longer
-abbrev pub longestReply : ℕ
-longestReply = 24
 
 -- what a call comes to: its record, the payload buffer after it, and the reply, which stands at the front of the reply buffer
 pub record Outcome : Type 0 where
-  pub told : answer.Record
+  pub answered : answer.Record
   pub payload : List ℕ
   pub reply : List ℕ
 
 -- a refusal: its number, and everything as it was
 abbrev pub refused : Session → List ℕ → ℕ → Outcome
 refused s pl n = record {
-  told = record { answer = answer.refused n; used = 0; happening = nothing; written = 0; next = s };
+  answered = record { answer = answer.refused n; used = 0; happening = nothing; written = 0; next = s };
   payload = pl;
   reply = [];
 }
@@ -42,7 +38,7 @@ abbrev pub stored : Session → List ℕ → List ℕ → List ℕ
 stored s bytes pl = if s .mode =? 2 then placed bytes (s .got) pl else pl
 
 abbrev pub went : Session → List ℕ → List ℕ → Out Session Happening → Outcome
-went s piece pl o = record { told = made o; payload = stored s (take (o .used) piece) pl; reply = o .reply }
+went s piece pl o = record { answered = made o; payload = stored s (take (o .used) piece) pl; reply = o .reply }
 
 -- 40, then 22, then 5; else the piece is fed up to the end of a line or of a payload
 unfoldable pub stepOf : Session → List ℕ → List ℕ → ℕ → Outcome

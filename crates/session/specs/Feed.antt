@@ -8,7 +8,7 @@ use Rattle.machine.specs.Machine.{Fed, quiet, stop}
 use Rattle.talk.specs.declared.Session.{Session}
 use Rattle.talk.specs.Answer.{Happening}
 use Rattle.talk.specs.Sessions.{lineSoFar}
-use Rattle.talk.specs.Talk.{Turn, closing, completed, heard, dataHeard}
+use Rattle.talk.specs.Talk.{Turn, closing, completed, lineHeard}
 
 -- a byte that ends a line or a payload stops the call; what it leads to is its turn
 abbrev pub turns : Turn → Fed Session Happening
@@ -19,9 +19,9 @@ turns t = stop (t .next) (t .reply) (t .happening)
 abbrev pub pushed : Session → ℕ → Session
 pushed s b = record { mode = s .mode; «line_len» = s .«line_len» + 1; line = set (s .line) (s .«line_len») b; terms = s .terms; got = s .got; hash = s .hash }
 
--- the line is whole: between messages, or after `send`
+-- the line is whole
 abbrev pub obeyed : Session → Turn
-obeyed s = if s .mode =? 0 then heard (lineSoFar s) else dataHeard (s .terms) (lineSoFar s)
+obeyed s = lineHeard s (lineSoFar s)
 
 abbrev pub feedLine : Session → ℕ → Fed Session Happening
 feedLine s b =

@@ -1,31 +1,21 @@
 -- What the private functions promise one another. No public promise cites this file.
-use mathlib.Core.Path.{_≡_}
-use Prim.Native.Nat.{ℕ, _-_, _≤_, _<_}
+use Prim.Native.Nat.{ℕ}
 use mathlib.Core.List.{List}
-use lib.ListN.{length, drop, getD}
-use Rattle.octets.specs.Bytes.{front}
-use Rattle.machine.specs.Machine.{run}
+use Rattle.replies.specs.Replies.{wrote}
+use Rattle.machine.specs.Machine.{Out}
 use Rattle.talk.specs.declared.Session.{Session}
-use Rattle.talk.specs.Answer.{Telling}
-use Rattle.talk.specs.Talk.{nothing}
+use Rattle.talk.specs.Answer.{Happening}
+use Rattle.talk.specs.Sessions.{lineSoFar}
+use Rattle.talk.specs.Talk.{Turn, turnAt}
+use Rattle.session.specs.declared.Intake.{Intake}
 use Rattle.session.specs.Answer as answer
-use Rattle.session.specs.Feed.{feed}
-use Rattle.session.specs.Calls.{made}
 
--- what was said of a whole line or a whole payload, as a step's record
-abbrev pub spoken : ℕ → Telling → answer.Record
-spoken used t = record { answer = answer.made; used = used; happening = t .happening; written = t .written; next = t .next }
+-- what the bytes taken in lead to: the turn, what feeding them comes to, and the step's record
+abbrev pub turnOf : Intake → Turn
+turnOf t = turnAt (t .stop) (t .session) (lineSoFar (t .session))
 
--- quiet bytes of a line were taken in: what feeding the piece comes to is what feeding the rest of it to r comes to, and the byte after them
--- ends the line, or is a 513th
-pub record Gathered (s : Session) (piece : List ℕ) (r : Session) : Type 0 where
-  pub from : s .«line_len» ≤ r .«line_len»
-  pub to : r .«line_len» ≤ 512
-  pub within : r .«line_len» - s .«line_len» ≤ length piece
-  pub mode : r .mode ≡ s .mode
-  pub same : run feed nothing 0 s piece ≡ run feed nothing (r .«line_len» - s .«line_len») r (drop (r .«line_len» - s .«line_len») piece)
-  pub stops : r .«line_len» - s .«line_len» < length piece → (getD piece (r .«line_len» - s .«line_len») 0 ≡ 10 → ⊥) → r .«line_len» ≡ 512
+abbrev pub outOf : Intake → Out Session Happening
+outOf t = record { used = t .used; state = turnOf t .next; reply = turnOf t .reply; happened = turnOf t .happening }
 
--- the record r and the reply buffer after a call are what feeding the piece comes to
-abbrev pub Answers : Session → List ℕ → answer.Record → List ℕ → List ℕ → Type 0
-Answers s piece r reply replyAfter = (r ≡ made (run feed nothing 0 s piece)) × (replyAfter ≡ front (run feed nothing 0 s piece .reply) reply)
+abbrev pub spoken : answer.Answer → Intake → List ℕ → answer.Record
+spoken a t reply = record { answer = a; used = t .used; happening = turnOf t .happening; written = wrote (turnOf t .reply) reply; next = turnOf t .next }

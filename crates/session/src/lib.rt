@@ -6,12 +6,13 @@ ghost use Rattle.session.specs.Answer.{says, openedSays};
 ghost use Rattle.session.specs.Calls.{stepOf, openOf, openReply};
 
 mod pieces;
-mod rules;
 
 use line::Line;
-use phrases::Reply;
+use replies::Reply;
+pub use session_rules::LONGEST_REPLY;
 use talk::Event;
 use talk::Session;
+use talk::Stop;
 
 // Whether a call was made, or refused by the paper's number.
 pub enum Stepping {
@@ -35,8 +36,12 @@ pub struct Opened {
     pub session: Session,
 }
 
-// The longest reply, and the shortest reply buffer.
-pub const LONGEST_REPLY: usize = 24;
+// What a piece comes to before anything is said: the bytes used, what they came to, and the session that took them in.
+pub struct Intake {
+    pub used: usize,
+    pub stop: Stop,
+    pub session: Session,
+}
 
 // Opens a session: the prompt is written.
 pub fn open_session(reply: &mut [u8]) -> Opened
@@ -51,7 +56,7 @@ pub fn open_session(reply: &mut [u8]) -> Opened
             session,
         };
     }
-    let written = phrases::say(Reply::Prompt, b"", reply);
+    let written = replies::say(Reply::Prompt, b"", reply);
     let session = talk::listening();
     let stepping = Stepping::Went;
     Opened {
@@ -63,20 +68,16 @@ pub fn open_session(reply: &mut [u8]) -> Opened
 
 // Feeds a piece of the peer's bytes, up to the end of a line or of a payload.
 pub fn feed(s: Session, piece: &[u8], payload: &mut [u8], reply: &mut [u8]) -> Step
-    ensures { λ r. ⌜ (says r ≡ stepOf s (now (piece .entry)) (now (payload .entry)) (length (now (reply .entry))) .told) × (now (payload .exit) ≡ stepOf s (now (piece .entry)) (now (payload .entry)) (length (now (reply .entry))) .payload) × (now (reply .exit) ≡ front (stepOf s (now (piece .entry)) (now (payload .entry)) (length (now (reply .entry))) .reply) (now (reply .entry))) ⌝ }
+    ensures { λ r. ⌜ (says r ≡ stepOf s (now (piece .entry)) (now (payload .entry)) (length (now (reply .entry))) .answered) × (now (payload .exit) ≡ stepOf s (now (piece .entry)) (now (payload .entry)) (length (now (reply .entry))) .payload) × (now (reply .exit) ≡ front (stepOf s (now (piece .entry)) (now (payload .entry)) (length (now (reply .entry))) .reply) (now (reply .entry))) ⌝ }
 {
-    if !rules::keep_rules(s) {
-        return pieces::refuse(s, refusals::STATE_BROKEN);
+    let number = session_rules::refusal(s, payload.len(), reply.len());
+    if number > 0 {
+        return pieces::refuse(s, number, reply);
     }
-    let mode = s.mode;
-    if mode == 3 {
-        return pieces::refuse(s, refusals::SESSION_CLOSED);
+    if s.mode == 2 {
+        let t = pieces::receive(s, piece, payload);
+        return pieces::tell(Stepping::Went, t, reply);
     }
-    if rules::too_short(payload.len(), reply.len()) {
-        return pieces::refuse(s, refusals::BUFFER_TOO_SHORT);
-    }
-    if mode == 2 {
-        return pieces::receive(s, piece, payload, reply);
-    }
-    pieces::listen(s, piece, reply)
+    let t = pieces::listen(s, piece);
+    pieces::tell(Stepping::Went, t, reply)
 }

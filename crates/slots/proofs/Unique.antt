@@ -9,6 +9,8 @@ use Rattle.slots.proofs.Slot.has_key.Kinds as has-key-kinds
 use Rattle.slots.proofs.Slot.has_key.Reads as has-key-reads
 use Rattle.slots.proofs.Slot.is_alike.Kinds as is-alike-kinds
 use Rattle.slots.proofs.Slot.is_alike.Reads as is-alike-reads
+use Rattle.slots.proofs.Slot.for_key.Kinds as for-key-kinds
+use Rattle.slots.proofs.Slot.for_key.Reads as for-key-reads
 
 pub free-one : One 0 free-kinds.ps free-kinds.r free-reads.Post
 free-one κs a x y v w p q = (p ∙ sym q, refl)
@@ -33,3 +35,9 @@ is-alike-one κs a x y v w p q = (p ∙ sym q, refl)
 
 pub is-alike-free : Free 0 is-alike-kinds.ps is-alike-reads.Pre
 is-alike-free κs a = tt
+
+pub for-key-one : One 0 for-key-kinds.ps for-key-kinds.r for-key-reads.Post
+for-key-one κs a x y v w p q = (p ∙ sym q, refl)
+
+pub for-key-free : Free 0 for-key-kinds.ps for-key-reads.Pre
+for-key-free κs a = tt

@@ -1,10 +1,11 @@
 -- Document 01, "Streams": a slot of the table, an open row with its key or a free row, and the rules that it keeps (40).
-use mathlib.Core.Bool.{Bool, false}
+use mathlib.Core.Bool.{Bool, true, false}
 use mathlib.Core.List.{[]}
 use Rattle.octets.specs.Words.{if_then_else_, _and_, no}
 use Rattle.keys.specs.declared.Key.{Key}
 use Rattle.keys.specs.Key.{sameKey, keepsKey, isNoKey, noKey}
-use Rattle.rows.specs.Row.{keepsRow, isNoRow, noRow}
+use Rattle.rows.specs.Stream.{fresh}
+use Rattle.rows.specs.Row.{rowOf, keepsRow, isNoRow, noRow}
 use Rattle.slots.specs.declared.Slot.{Slot}
 
 -- a free row is all zero
@@ -21,6 +22,10 @@ keepsSlot x = if x .used then keepsKey (x .key) and keepsRow (x .row) else isNoK
 -- the slot is open and has the key
 unfoldable pub hasKey : Key → Slot → Bool
 hasKey k x = x .used and sameKey k (x .key)
+
+-- the slot that an offer with the key goes to: an open one as it is, a free one with a new row
+abbrev pub slotFor : Key → Slot → Slot
+slotFor k x = if x .used then x else record { used = true; key = k; row = rowOf fresh }
 
 -- what a list gives past its end
 abbrev pub pastSlot : Slot

@@ -1,7 +1,7 @@
 // Document 01, "Streams": a slot of the table, which is an open row with its key, or a free one, all zero.
 ghost use mathlib.Core.Path.{_≡_};
 ghost use Rattle.octets.specs.Words.{_and_};
-ghost use Rattle.slots.specs.Slot.{freeSlot, keepsSlot, hasKey};
+ghost use Rattle.slots.specs.Slot.{freeSlot, keepsSlot, hasKey, slotFor};
 use keys::Key;
 use rows::Row;
 
@@ -63,5 +63,20 @@ impl Slot {
         }
         let key = self.key;
         other.has_key(key)
+    }
+
+    // The slot itself where it is open, else a new row of the key.
+    pub fn for_key(self, key: Key) -> Slot
+        ensures { λ r. ⌜ r ≡ slotFor key self ⌝ }
+    {
+        if self.used {
+            return self;
+        }
+        let row = Row::new();
+        Slot {
+            used: true,
+            key: key,
+            row: row,
+        }
     }
 }

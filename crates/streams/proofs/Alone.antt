@@ -20,8 +20,8 @@ use Rattle.rows.specs.Row.{heldIn, keepsRow, offerOf, takeOf, forceOf}
 use Rattle.rows.proofs.Expected.{expected-accepted-row}
 use Rattle.refusals.specs.Numbers.{stillHolding}
 use Rattle.streams.specs.declared.Table.{Table}
-use Rattle.streams.specs.declared.Found.{Found}
-use Rattle.streams.specs.declared.Lookup.{Lookup}
+use Rattle.slot_rules.specs.Slots.{Found}
+use Rattle.lookups.specs.declared.Lookup.{Lookup}
 use Rattle.streams.specs.Table.{freeSlot, hasKey, keepsTable, first, slotAt, withSlot}
 use Rattle.streams.specs.Calls.{place, lookUp, onRow, offer, take, force, close}
 use Rattle.streams.specs.Meaning.{rowFor}

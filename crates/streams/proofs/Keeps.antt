@@ -18,14 +18,14 @@ use Rattle.rows.specs.Stream.{word, words}
 use Rattle.rows.specs.Row.{keepsRow, isNoRow}
 use Rattle.slots.specs.declared.Slot.{Slot}
 use Rattle.streams.specs.declared.Table.{Table}
-use Rattle.streams.specs.Table.{freeSlot, keepsSlot, distinct, keepsTable, slotAt, withSlot, pastSlot, empty}
+use Rattle.streams.specs.Table.{freeSlot, keepsSlot, distinct, keepsTable, keepsSlots, slotAt, withSlot, pastSlot, empty}
 use Rattle.streams.specs.Calls.{offer, take, force, close}
 use Rattle.streams.proofs.Lookups.{Kept}
 use Rattle.streams.proofs.Places.{place-at, used-key, every-set, distinct-less, distinct-new}
 use Rattle.streams.proofs.Moves.{Move, refusing, moving, opening, freeing, offer-moves, take-moves, force-moves, close-moves}
 
 set-keeps : (t : Table) (i : ℕ) (y : Slot) → Kept t → keepsSlot y ≡ true → distinct (set (t .slots) i y) ≡ true → keepsTable (withSlot t i y) ≡ true
-unfolding keepsTable
+unfolding keepsSlots
 set-keeps t i y g e d = and-both _ _ (eq-eqb _ _ (length-set (t .slots) i y ∙ g .long)) (and-both _ _ (every-set keepsSlot (t .slots) i y (g .each) e) d)
 
 open-slot : (k : Key) (r : Row) → keepsKey k ≡ true → keepsRow r ≡ true → keepsSlot (record { used = true; key = k; row = r }) ≡ true
@@ -66,7 +66,7 @@ free-is x u e =
 -- ---- the theorem, call by call
 
 pub empty-keeps : keepsTable empty ≡ true
-unfolding keepsTable keepsSlot isNoKey isNoRow
+unfolding keepsSlots keepsSlot isNoKey isNoRow
 empty-keeps = refl
 
 module _ (t : Table) (o s : List ℕ) (e : keepsTable t ≡ true) where

@@ -1,6 +1,4 @@
 -- Laws of the table, and its theorems.
-pub mod Search
-pub mod Marks
 pub mod Lookups
 pub mod Places
 pub mod Moves

@@ -1,29 +1,35 @@
 -- What stands for a key, by the tests in their order; and the answers of the calls from their parts.
-use mathlib.Core.Path.{_≡_, refl, sym, ap, _∙_}
+use mathlib.Core.Path.{_≡_, refl, sym, ap, _∙_, subst}
 use Prim.Native.Nat.{ℕ, _<_}
 use native.Mathlib.Omega.{arith}
 use mathlib.Core.Bool.{Bool, true, false}
 use mathlib.Core.List.{List}
 use lib.ListN.{length}
-use borrow.Author.Tests.{eq-eqb, ne-eqb, eqb-true, ltb-false, ltb-true}
+use borrow.Author.Tests.{lt-ltb, eq-eqb, ne-eqb, eqb-true, ltb-false, ltb-true}
 use Rattle.octets.specs.Words.{if_then_else_, no, every, _<?_, _=?_}
 use Rattle.octets.proofs.Tests.{if-yes, if-no, and-left, and-right}
-use Rattle.refusals.specs.Numbers.{stateBroken, noFreeRow, stillHolding}
+use Rattle.refusals.specs.Numbers.{stateBroken, stale, noFreeRow, noSuchStream, stillHolding}
 use Rattle.keys.specs.declared.Key.{Key}
 use Rattle.keys.specs.declared.Named.{Named}
 use Rattle.keys.specs.Key.{namedOf}
 use Rattle.rows.specs.declared.Row.{Row}
 use Rattle.rows.specs.Answer.{Answer, accepted, Outcome, refuse}
 use Rattle.places.specs.declared.Held.{Held}
+use Rattle.rows.specs.Stream.{fresh}
+use Rattle.rows.specs.Row.{rowOf, offerOf}
 use Rattle.slots.specs.declared.Slot.{Slot}
+use Rattle.slots.specs.Slot.{slotFor}
+use Rattle.slot_rules.specs.declared.Ruled.{Ruled}
+use Rattle.slot_rules.specs.Slots.{numberOf, broken, testOf}
+use Rattle.lookups.specs.declared.Target.{Target}
+use Rattle.lookups.specs.Lookup.{standingOf, knownTarget, offerTarget}
 use Rattle.streams.specs.declared.Table.{Table}
-use Rattle.streams.specs.declared.Found.{Found}
-use Rattle.streams.specs.declared.Lookup.{Lookup}
-use Rattle.streams.specs.declared.rules.Ruled.{Ruled}
-use Rattle.streams.specs.Table.{keepsSlot, hasKey, distinct, keepsTable, first, slotAt, withSlot, freeSlot}
-use Rattle.streams.specs.Calls.{place, lookUp, onRow, opened, offerBy, offer, takeBy, take, forceBy, force, closeBy, close}
-use Rattle.streams.specs.Steps.{foundOr, Tested, standingOf}
-use Rattle.streams.proofs.Search.{first-bound}
+use Rattle.slot_rules.specs.Slots.{Found}
+use Rattle.lookups.specs.declared.Lookup.{Lookup}
+use Rattle.streams.specs.Table.{isFree, keepsSlot, hasKey, distinct, keepsTable, keepsSlots, first, count, slotAt, withSlot, freeSlot}
+use Rattle.streams.specs.Calls.{place, lookUp, onRow, opens, offerBy, offer, takeBy, take, forceBy, force, closeBy, close}
+use Rattle.slot_rules.proofs.Search.{first-bound}
+use Rattle.streams.proofs.Places.{place-at, first-place, used-key, not-free}
 
 -- a table that keeps the rules
 pub record Kept (t : Table) : Type 0 where
@@ -32,7 +38,7 @@ pub record Kept (t : Table) : Type 0 where
   pub apart : distinct (t .slots) ≡ true
 
 pub kept : (t : Table) → keepsTable t ≡ true → Kept t
-unfolding keepsTable
+unfolding keepsSlots
 kept t e =
     let f = and-right (length (t .slots) =? 32) _ e in
     record {
@@ -40,6 +46,12 @@ kept t e =
       each = and-left (every keepsSlot (t .slots)) _ f;
       apart = and-right (every keepsSlot (t .slots)) _ f;
     }
+
+-- the offer of slot y's row, put at place i
+abbrev pub offerAt : Table → Held → ℕ → ℕ → Slot → Outcome Table
+offerAt t m time i y =
+    let o = offerOf (y .row) m time in
+    record { answer = o .answer; after = withSlot t i (record { used = y .used; key = y .key; row = o .after }) }
 
 module _ (t : Table) (named : Named) where
   -- by the tests in their order
@@ -54,30 +66,130 @@ module _ (t : Table) (named : Named) where
       go true true e f = b (ltb-true 0 (named .refusal) f)
       go true false e f = c e (let z = ltb-false 0 (named .refusal) f in omega arith)
 
-  -- an open row is one of the 32
-  pub open-bound : (i : ℕ) → Lookup.Open i ≡ lookUp t named → i < 32
-  open-bound i = by-lookup (λ (l : Lookup). Lookup.Open i ≡ l → i < 32) (λ k e. not-refused e) (λ h e. not-refused e) (λ k z. found k (first (hasKey (named .key)) 0 (t .slots)) refl)
-    where
-      not-refused : {n : ℕ} → Lookup.Open i ≡ Lookup.Refused n → i < 32
-      not-refused e = let z : _≡_ {A = ℕ} 0 1 = cc in absurd (omega arith)
+  -- what stands there: an open row is one of the 32
+  abbrev Stands : Lookup → Type 0
+  Stands (Lookup.Refused n) = Unit {0}
+  Stands (Lookup.Open i) = (i < 32) × (slotAt t i .used ≡ true)
+  Stands Lookup.Unknown = Unit {0}
 
-      found : keepsTable t ≡ true → (f : Found) → f ≡ first (hasKey (named .key)) 0 (t .slots) → Lookup.Open i ≡ place f → i < 32
-      found k (Found.At j) q e = let z : j ≡ i = cc in omega (arith, kept t k .long, first-bound (hasKey (named .key)) 0 j (t .slots) q)
-      found k Found.Nothing q e = let z : _≡_ {A = ℕ} 0 1 = cc in absurd (omega arith)
+  stands : Stands (lookUp t named)
+  stands = by-lookup Stands (λ k. tt) (λ h. tt) (λ k z. found k (first (hasKey (named .key)) 0 (t .slots)) refl)
+    where
+      found : keepsTable t ≡ true → (f : Found) → f ≡ first (hasKey (named .key)) 0 (t .slots) → Stands (place f)
+      found k (Found.At i) q =
+          let p = place-at (first-place (hasKey (named .key)) i (t .slots) q) in
+          (omega (arith, kept t k .long, p .1), used-key (named .key) (slotAt t i) (p .0))
+      found k Found.Nothing q = tt
+
+  -- what the code looked up stands for the key
+  pub look-is : (r : Ruled) → r ≡ testOf (t .slots) (named .key) → standingOf (r .good) (named .refusal) (r .found) ≡ lookUp t named
+  unfolding lookUp testOf
+  look-is r e = rw e (go (keepsTable t) refl)
+    where
+      f : Found
+      f = first (hasKey (named .key)) 0 (t .slots)
+
+      at : keepsTable t ≡ true → (x : Found) → x ≡ f → (if numberOf x <? 32 then Lookup.Open (numberOf x) else Lookup.Unknown) ≡ place x
+      at k (Found.At i) q = if-yes _ _ _ (lt-ltb i 32 (omega (arith, kept t k .long, first-bound (hasKey (named .key)) 0 i (t .slots) q)))
+      at k Found.Nothing q = refl
+
+      go : (b : Bool) → keepsTable t ≡ b
+          → (let r = if_then_else_ {A = Ruled} (no b) broken (record { good = true; found = numberOf f; free = numberOf (first isFree 0 (t .slots)); rows = count (λ x. x .used) (t .slots) }) in standingOf (r .good) (named .refusal) (r .found))
+          ≡ (if no b then Lookup.Refused stateBroken else if 0 <? named .refusal then Lookup.Refused (named .refusal) else place f)
+      go false k = refl
+      go true k = ap (λ (l : Lookup). if 0 <? named .refusal then Lookup.Refused (named .refusal) else l) (at k f refl)
+
+  -- ---- a take, a force or a close, from its target
+
+  -- the target is an open row, or the call is refused
+  module _ (f : Lookup → Outcome Table) (a : (n : ℕ) → f (Lookup.Refused n) ≡ refuse n t) (u : f Lookup.Unknown ≡ refuse noSuchStream t) where
+    refused-by : (l : Lookup) (n : ℕ) → Target.Refused n ≡ knownTarget l → refuse n t ≡ f l
+    refused-by (Lookup.Refused m) n e = let z : n ≡ m = cc in rw z (sym (a m))
+    refused-by (Lookup.Open i) n e = let z : _≡_ {A = ℕ} 0 1 = cc in absurd (omega arith)
+    refused-by Lookup.Unknown n e = let z : n ≡ noSuchStream = cc in rw z (sym u)
+
+    pub not-known : (n : ℕ) → Target.Refused n ≡ knownTarget (lookUp t named) → refuse n t ≡ f (lookUp t named)
+    not-known = refused-by (lookUp t named)
+
+    open-by : (l : Lookup) (i : ℕ) → Target.At i ≡ knownTarget l → Lookup.Open i ≡ l
+    open-by (Lookup.Refused m) i e = let z : _≡_ {A = ℕ} 0 1 = cc in absurd (omega arith)
+    open-by (Lookup.Open j) i e = let z : i ≡ j = cc in ap Lookup.Open z
+    open-by Lookup.Unknown i e = let z : _≡_ {A = ℕ} 0 1 = cc in absurd (omega arith)
+
+    pub is-known : (i : ℕ) → Target.At i ≡ knownTarget (lookUp t named) → f (Lookup.Open i) ≡ f (lookUp t named)
+    is-known i e = ap f (open-by (lookUp t named) i e)
+
+  pub known-bound : (i : ℕ) → Target.At i ≡ knownTarget (lookUp t named) → i < 32
+  known-bound i e = go (lookUp t named) stands e
+    where
+      go : (l : Lookup) → Stands l → Target.At i ≡ knownTarget l → i < 32
+      go (Lookup.Refused m) w q = let z : _≡_ {A = ℕ} 0 1 = cc in absurd (omega arith)
+      go (Lookup.Open j) w q = let z : i ≡ j = cc in omega (arith, w .0)
+      go Lookup.Unknown w q = let z : _≡_ {A = ℕ} 0 1 = cc in absurd (omega arith)
+
+  -- ---- an offer, from its target
+
+  abbrev pub freeAt : ℕ
+  freeAt = numberOf (first isFree 0 (t .slots))
+
+  pub offer-target : (r : Ruled) (number : ℕ) → r ≡ testOf (t .slots) (named .key)
+      → offerTarget number (r .free) (standingOf (r .good) (named .refusal) (r .found)) ≡ offerTarget number freeAt (lookUp t named)
+  unfolding testOf
+  offer-target r number e = go (keepsTable t) refl
+    where
+      l : Lookup
+      l = standingOf (r .good) (named .refusal) (r .found)
+
+      is : (b : Bool) → Ruled
+      is b = if no b then broken else record { good = true; found = numberOf (first (hasKey (named .key)) 0 (t .slots)); free = freeAt; rows = count (λ x. x .used) (t .slots) }
+
+      go : (b : Bool) → keepsTable t ≡ b → offerTarget number (r .free) l ≡ offerTarget number freeAt (lookUp t named)
+      go b k = free b (e ∙ ap is k) ∙ ap (offerTarget number freeAt) (look-is r e)
+        where
+          free : (b : Bool) → r ≡ is b → offerTarget number (r .free) l ≡ offerTarget number freeAt l
+          free true q = ap (λ (x : Ruled). offerTarget number (x .free) l) q
+          free false q = rw q refl
+
+  module _ (k : Key) (m : Held) (time : ℕ) where
+    abbrev Ends : Target → Outcome Table → Type 0
+    Ends (Target.Refused n) o = refuse n t ≡ o
+    Ends (Target.At i) o = (i < 32) × (offerAt t m time i (slotFor k (slotAt t i)) ≡ o)
+
+    ends : length (t .slots) ≡ 32 → Ends (offerTarget (m .number) freeAt (lookUp t named)) (offerBy t k m time (lookUp t named))
+    ends h = go (lookUp t named) stands
+      where
+        into : (f : Found) → f ≡ first isFree 0 (t .slots) → Ends (if numberOf f <? 32 then Target.At (numberOf f) else Target.Refused noFreeRow) (opens t k (offerOf (rowOf fresh) m time) f)
+        into (Found.At i) q =
+            let p = place-at (first-place isFree i (t .slots) q) in
+            let b : i < 32 = omega (arith, h, p .1) in
+            rw (lt-ltb i 32 b) (b, ap (offerAt t m time i) (if-no (slotAt t i .used) (slotAt t i) (record { used = true; key = k; row = rowOf fresh }) (not-free (slotAt t i .used) (p .0))))
+        into Found.Nothing q = refl
+
+        new : (b : Bool) → Ends (if b then Target.Refused stale else if freeAt <? 32 then Target.At freeAt else Target.Refused noFreeRow) (if b then refuse stale t else opens t k (offerOf (rowOf fresh) m time) (first isFree 0 (t .slots)))
+        new true = refl
+        new false = into (first isFree 0 (t .slots)) refl
+
+        go : (l : Lookup) → Stands l → Ends (offerTarget (m .number) freeAt l) (offerBy t k m time l)
+        go (Lookup.Refused n) w = refl
+        go (Lookup.Open i) w = (w .0, ap (offerAt t m time i) (if-yes (slotAt t i .used) (slotAt t i) (record { used = true; key = k; row = rowOf fresh }) (w .1)))
+        go Lookup.Unknown w = new (m .number <? 1)
+
+    pub offer-not : (n : ℕ) → length (t .slots) ≡ 32 → Target.Refused n ≡ offerTarget (m .number) freeAt (lookUp t named) → refuse n t ≡ offerBy t k m time (lookUp t named)
+    offer-not n h e = subst (λ (p : Target). Ends p (offerBy t k m time (lookUp t named))) (sym e) (ends h)
+
+    pub offer-at : (i : ℕ) → length (t .slots) ≡ 32 → Target.At i ≡ offerTarget (m .number) freeAt (lookUp t named) → (i < 32) × (offerAt t m time i (slotFor k (slotAt t i)) ≡ offerBy t k m time (lookUp t named))
+    offer-at i h e = subst (λ (p : Target). Ends p (offerBy t k m time (lookUp t named))) (sym e) (ends h)
 
 -- ---- an answer from its parts: what the row's call said, and the table with the row after it
 pub on-row : (t : Table) (i : ℕ) (a : Answer) (r : Row) (o : Outcome Row) → _≡_ {A = Outcome Row} (record { answer = a; after = r }) o
     → _≡_ {A = Outcome Table} (record { answer = a; after = withSlot t i (record { used = slotAt t i .used; key = slotAt t i .key; row = r }) }) (onRow t i o)
 on-row t i a r o e = ap (onRow t i) e
 
--- a row is opened at a free slot, or there is none
-module _ (t : Table) (k : Key) (o : Outcome Row) (f : Found) where
-  pub opened-none : Found.Nothing ≡ f → refuse noFreeRow t ≡ opened t k o f
-  opened-none e = ap (opened t k o) e
-
-  pub opened-at : (i : ℕ) (a : Answer) (r : Row) → Found.At i ≡ f → _≡_ {A = Outcome Row} (record { answer = a; after = r }) o
-      → _≡_ {A = Outcome Table} (record { answer = a; after = withSlot t i (record { used = true; key = k; row = r }) }) (opened t k o f)
-  opened-at i a r e h = ap (λ (x : Outcome Row). opened t k x (Found.At i)) h ∙ ap (opened t k o) e
+-- the same at the slot that an offer goes to
+pub on-slot : (t : Table) (m : Held) (time i : ℕ) (x y : Slot) (a : Answer) (r : Row) → x ≡ y → _≡_ {A = Outcome Row} (record { answer = a; after = r }) (offerOf (x .row) m time)
+    → _≡_ {A = Outcome Table} (record { answer = a; after = withSlot t i (record { used = x .used; key = x .key; row = r }) }) (offerAt t m time i y)
+on-slot t m time i x y a r e h =
+    ap {B = Outcome Table} (λ (o : Outcome Row). record { answer = o .answer; after = withSlot t i (record { used = x .used; key = x .key; row = o .after }) }) h ∙ ap (offerAt t m time i) e
 
 -- something is held, or the row is free again
 module _ (t : Table) (i : ℕ) where
@@ -87,27 +199,29 @@ module _ (t : Table) (i : ℕ) where
   pub closed-at : (x : Slot) → slotAt t i .row .count ≡ 0 → x ≡ freeSlot → _≡_ {A = Outcome Table} (record { answer = accepted; after = withSlot t i x }) (closeBy t (Lookup.Open i))
   closed-at x n e = ap {B = Outcome Table} (λ (y : Slot). record { answer = accepted; after = withSlot t i y }) e ∙ sym (if-yes _ _ _ (eq-eqb (slotAt t i .row .count) 0 n))
 
--- what the code looked up stands for the key
-pub look-is : (t : Table) (named : Named) (r : Ruled) → Tested t (named .key) r → standingOf r (named .refusal) ≡ lookUp t named
-unfolding lookUp
-look-is t named r w = rw (← w .good) (go (r .good) refl)
+-- the calls, from the names
+module _ (t : Table) (o s : List ℕ) (named : Named) (q : named ≡ namedOf o s) where
+  pub offer-by : (m : Held) (time : ℕ) → offerBy t (named .key) m time (lookUp t named) ≡ offer t o s m time
+  offer-by m time = rw q
+
+  pub take-by : (time : ℕ) → takeBy t time (lookUp t named) ≡ take t o s time
+  take-by time = rw q
+
+  pub force-by : (time : ℕ) → forceBy t time (lookUp t named) ≡ force t o s time
+  force-by time = rw q
+
+  pub close-by : closeBy t (lookUp t named) ≡ close t o s
+  close-by = rw q
+
+-- 40, or how many rows are open
+pub test-good : (t : Table) (k : Key) (r : Ruled) → r ≡ testOf (t .slots) k → r .good ≡ keepsTable t
+unfolding testOf
+test-good t k r e = rw e (go (keepsTable t))
   where
-    go : (b : Bool) → r .good ≡ b
-        → (if no b then Lookup.Refused stateBroken else if 0 <? named .refusal then Lookup.Refused (named .refusal) else place (foundOr (r .found) Found.Nothing))
-        ≡ (if no b then Lookup.Refused stateBroken else if 0 <? named .refusal then Lookup.Refused (named .refusal) else place (first (hasKey (named .key)) 0 (t .slots)))
-    go false e = refl
-    go true e = ap (λ (f : Found). if 0 <? named .refusal then Lookup.Refused (named .refusal) else place f) (w .found e)
+    go : (b : Bool) → (if_then_else_ {A = Ruled} (no b) broken (record { good = true; found = numberOf (first (hasKey k) 0 (t .slots)); free = numberOf (first isFree 0 (t .slots)); rows = count (λ x. x .used) (t .slots) })) .good ≡ b
+    go true = refl
+    go false = refl
 
--- the calls, from what the code looked up
-module _ (t : Table) (o s : List ℕ) (named : Named) (l : Lookup) (p : l ≡ lookUp t named) (q : named ≡ namedOf o s) where
-  pub offer-by : (m : Held) (time : ℕ) → offerBy t (named .key) m time l ≡ offer t o s m time
-  offer-by m time = rw (p, q)
-
-  pub take-by : (time : ℕ) → takeBy t time l ≡ take t o s time
-  take-by time = rw (p, q)
-
-  pub force-by : (time : ℕ) → forceBy t time l ≡ force t o s time
-  force-by time = rw (p, q)
-
-  pub close-by : closeBy t l ≡ close t o s
-  close-by = rw (p, q)
+pub test-rows : (t : Table) (k : Key) (r : Ruled) → r ≡ testOf (t .slots) k → keepsTable t ≡ true → r .rows ≡ count (λ x. x .used) (t .slots)
+unfolding testOf
+test-rows t k r e g = rw (e, g)

@@ -1,4 +1,4 @@
--- Every call is one of four moves: a refusal, a row's own call on the row of its key, a row opened for an unknown key, a row freed.
+-- Every call is one of four moves: a refusal, a row's own call on the row of its key, a row opens for an unknown key, a row freed.
 -- The theorems of the table are proved of the moves.
 use mathlib.Core.Path.{_≡_, refl, sym, _∙_, subst}
 use Prim.Native.Nat.{ℕ, _≤_}
@@ -24,10 +24,10 @@ use Rattle.rows.specs.Row.{keepsRow, rowOf, offerOf, takeOf, forceOf}
 use Rattle.rows.proofs.Keeps.{fresh-keeps, offer-keeps-row, take-keeps-row, force-keeps-row}
 use Rattle.rows.proofs.Refusals.{Unmoved, offer-unmoved-row, take-unmoved-row, force-unmoved-row}
 use Rattle.streams.specs.declared.Table.{Table}
-use Rattle.streams.specs.declared.Found.{Found}
-use Rattle.streams.specs.declared.Lookup.{Lookup}
+use Rattle.slot_rules.specs.Slots.{Found}
+use Rattle.lookups.specs.declared.Lookup.{Lookup}
 use Rattle.streams.specs.Table.{freeSlot, isFree, keepsSlot, hasKey, first, slotAt, withSlot, pastSlot}
-use Rattle.streams.specs.Calls.{place, lookUp, onRow, opened, offerBy, offer, takeBy, take, forceBy, force, closeBy, close}
+use Rattle.streams.specs.Calls.{place, lookUp, onRow, opens, offerBy, offer, takeBy, take, forceBy, force, closeBy, close}
 use Rattle.streams.proofs.Lookups.{Kept, kept, by-lookup}
 use Rattle.streams.proofs.Places.{Place, place-at, first-place, first-none, used-key}
 
@@ -87,14 +87,14 @@ module _ (t : Table) (o s : List ℕ) where
         (λ i g p. moving (offerOf (slotAt t i .row) m time) g p (offer-unmoved-row (slotAt t i .row) m time) (offer-keeps-row (slotAt t i .row) (row-keeps t k i g p) time w m v))
         (λ g a n. unknown g a n (m .number <? 1) refl)
       where
-        into : Kept t → keepsKey k ≡ true → some (hasKey k) (t .slots) ≡ false → 1 ≤ m .number → (f : Found) → f ≡ first isFree 0 (t .slots) → Move t k (opened t k (offerOf (rowOf fresh) m time) f)
+        into : Kept t → keepsKey k ≡ true → some (hasKey k) (t .slots) ≡ false → 1 ≤ m .number → (f : Found) → f ≡ first isFree 0 (t .slots) → Move t k (opens t k (offerOf (rowOf fresh) m time) f)
         into g a n h (Found.At i) q =
             subst (λ (b : Answer). Move t k (record { answer = b; after = withSlot t i (record { used = true; key = k; row = offerOf (rowOf fresh) m time .after }) })) (sym (fresh-accepts m time h))
             (opening (offerOf (rowOf fresh) m time .after) g (first-place isFree i (t .slots) q) n a (offer-keeps-row (rowOf fresh) fresh-keeps time w m v))
         into g a n h Found.Nothing q = refusing 13
 
         unknown : Kept t → keepsKey k ≡ true → some (hasKey k) (t .slots) ≡ false → (b : Bool) → (m .number <? 1) ≡ b
-            → Move t k (if b then refuse 10 t else opened t k (offerOf (rowOf fresh) m time) (first isFree 0 (t .slots)))
+            → Move t k (if b then refuse 10 t else opens t k (offerOf (rowOf fresh) m time) (first isFree 0 (t .slots)))
         unknown g a n true e = refusing 10
         unknown g a n false e = into g a n (ltb-false (m .number) 1 e) (first isFree 0 (t .slots)) refl
 

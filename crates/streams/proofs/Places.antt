@@ -13,10 +13,10 @@ use Rattle.keys.specs.Key.{sameKey}
 use Rattle.keys.proofs.SameKey.{sameKey-refl, sameKey-sym, sameKey-trans, sameKey-other}
 use Rattle.rows.specs.declared.Row.{Row}
 use Rattle.slots.specs.declared.Slot.{Slot}
-use Rattle.streams.specs.declared.Found.{Found}
+use Rattle.slot_rules.specs.Slots.{Found}
 use Rattle.streams.specs.Table.{hasKey, twice, distinct, first, pastSlot}
 use Rattle.streams.specs.Meaning.{rowIn}
-use Rattle.streams.proofs.Search.{found-nothing}
+use Rattle.slot_rules.proofs.Search.{found-nothing}
 
 -- ---- the first slot that passes a test
 

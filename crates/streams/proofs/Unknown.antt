@@ -17,10 +17,10 @@ use Rattle.rows.specs.Answer.{refuse}
 use Rattle.rows.specs.Stream.{fresh}
 use Rattle.rows.specs.Row.{rowOf, offerOf}
 use Rattle.streams.specs.declared.Table.{Table}
-use Rattle.streams.specs.declared.Found.{Found}
-use Rattle.streams.specs.declared.Lookup.{Lookup}
+use Rattle.slot_rules.specs.Slots.{Found}
+use Rattle.lookups.specs.declared.Lookup.{Lookup}
 use Rattle.streams.specs.Table.{isFree, hasKey, keepsTable, first}
-use Rattle.streams.specs.Calls.{place, lookUp, opened, offer, takeBy, take, forceBy, force, closeBy, close}
+use Rattle.streams.specs.Calls.{place, lookUp, opens, offer, takeBy, take, forceBy, force, closeBy, close}
 use Rattle.streams.specs.Meaning.{rowFor}
 use Rattle.streams.proofs.Places.{place-at, first-place, none-some, row-place, row-new, own-key}
 use Rattle.streams.proofs.Alone.{Does, named-is}
@@ -64,7 +64,7 @@ module _ (t : Table) (o s : List ℕ) (e : keepsTable t ≡ true) (c : callsign 
   close-unknown = ap (closeBy t) unknown
 
   module _ (m : Held) (time : ℕ) where
-    offer-unknown : offer t o s m time ≡ (if m .number <? 1 then refuse stale t else opened t (keyOf o s) (offerOf (rowOf fresh) m time) (first isFree 0 (t .slots)))
+    offer-unknown : offer t o s m time ≡ (if m .number <? 1 then refuse stale t else opens t (keyOf o s) (offerOf (rowOf fresh) m time) (first isFree 0 (t .slots)))
     offer-unknown = rw (unknown, named-is o s c d)
 
     -- 0 is stale, whether or not a row is free

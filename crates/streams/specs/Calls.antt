@@ -13,10 +13,9 @@ use Rattle.rows.specs.Answer.{accepted, refused, Outcome, refuse}
 use Rattle.rows.specs.Stream.{fresh}
 use Rattle.rows.specs.Row.{rowOf, noRow, offerOf, takeOf, forceOf}
 use Rattle.streams.specs.declared.Table.{Table}
-use Rattle.streams.specs.declared.Found.{Found}
-use Rattle.streams.specs.declared.Lookup.{Lookup}
+use Rattle.lookups.specs.declared.Lookup.{Lookup}
 use Rattle.streams.specs.Answer.{Counted, counted, uncounted, Sight}
-use Rattle.streams.specs.Table.{freeSlot, isFree, hasKey, keepsTable, first, count, slotAt, withSlot}
+use Rattle.streams.specs.Table.{freeSlot, isFree, hasKey, keepsTable, Found, first, count, slotAt, withSlot}
 
 -- ---- what stands for a key
 
@@ -37,14 +36,14 @@ onRow t i o = record { answer = o .answer; after = withSlot t i (record { used =
 
 -- ---- offer: an unknown key expects 1 and takes the lowest free row
 
-abbrev pub opened : Table → Key → Outcome Row → Found → Outcome Table
-opened t k o (Found.At i) = record { answer = o .answer; after = withSlot t i (record { used = true; key = k; row = o .after }) }
-opened t k o Found.Nothing = refuse noFreeRow t
+abbrev pub opens : Table → Key → Outcome Row → Found → Outcome Table
+opens t k o (Found.At i) = record { answer = o .answer; after = withSlot t i (record { used = true; key = k; row = o .after }) }
+opens t k o Found.Nothing = refuse noFreeRow t
 
 abbrev pub offerBy : Table → Key → Held → ℕ → Lookup → Outcome Table
 offerBy t k m time (Lookup.Refused n) = refuse n t
 offerBy t k m time (Lookup.Open i) = onRow t i (offerOf (slotAt t i .row) m time)
-offerBy t k m time Lookup.Unknown = if m .number <? 1 then refuse stale t else opened t k (offerOf (rowOf fresh) m time) (first isFree 0 (t .slots))
+offerBy t k m time Lookup.Unknown = if m .number <? 1 then refuse stale t else opens t k (offerOf (rowOf fresh) m time) (first isFree 0 (t .slots))
 
 abbrev pub offer : Table → List ℕ → List ℕ → Held → ℕ → Outcome Table
 offer t originator id m time = let named = namedOf originator id in offerBy t (named .key) m time (lookUp t named)

@@ -2,5 +2,4 @@
 pub mod Answer
 pub mod Table
 pub mod Calls
-pub mod Steps
 pub mod Meaning

@@ -1,15 +1,14 @@
 // Document 01, "Streams": the table of 32 rows by key. The table goes in by value and comes back in the answer; a refusal hands it back as
 // it came.
 ghost use mathlib.Core.Path.{_≡_};
+ghost use Rattle.rows.specs.Answer.{refused};
+ghost use Rattle.rows.specs.Row.{noRow};
+ghost use Rattle.keys.specs.Key.{noKey};
 ghost use Rattle.streams.specs.Answer.{servedSays, takenSays, countSays, shownSays};
 ghost use Rattle.streams.specs.Table.{empty};
 ghost use Rattle.streams.specs.Calls.{offer, take, force, close, openRows, rowAt};
-
-mod calls;
-mod rules;
-
 use keys::Key;
-use places::Held;
+use lookups::Target;
 use rows::Accepting;
 use rows::Giving;
 use rows::Row;
@@ -17,19 +16,6 @@ use slots::Slot;
 
 pub struct Table {
     pub slots: [Slot; 32],
-}
-
-// The place of a slot, where a search found one.
-pub(crate) enum Found {
-    At(usize),
-    Nothing,
-}
-
-// What stands for a key: a refusal, the place of its row, or no row.
-pub(crate) enum Lookup {
-    Refused(u8),
-    Open(usize),
-    Unknown,
 }
 
 pub struct Served {
@@ -76,15 +62,16 @@ impl Table {
     {
         let named = keys::name(originator, stream_id);
         let key = named.key;
-        let r = rules::test(self, key);
-        let l = calls::standing(r, named.refusal);
-        match l {
-            Lookup::Refused(n) => Served {
+        let slots = self.slots;
+        let r = slot_rules::test(slots, key);
+        let p = lookups::known_or_free(r.good, named.refusal, r.found, number, r.free);
+        match p {
+            Target::Refused(n) => Served {
                 answer: Accepting::Refused(n),
                 table: self,
             },
-            Lookup::Open(i) => {
-                let mut x = self.slots[i];
+            Target::At(i) => {
+                let mut x = self.slots[i].for_key(key);
                 let row = x.row;
                 let o = row.offer(number, timeout, slip, time);
                 let answer = o.answer;
@@ -96,14 +83,6 @@ impl Table {
                     table: self,
                 }
             }
-            Lookup::Unknown => {
-                let m = Held {
-                    number: number,
-                    timeout: timeout,
-                    slip: slip,
-                };
-                calls::offer_new(self, key, m, time)
-            }
         }
     }
 
@@ -113,14 +92,15 @@ impl Table {
     {
         let named = keys::name(originator, stream_id);
         let key = named.key;
-        let r = rules::test(self, key);
-        let l = calls::standing(r, named.refusal);
-        match l {
-            Lookup::Refused(n) => Taken {
+        let slots = self.slots;
+        let r = slot_rules::test(slots, key);
+        let p = lookups::known(r.good, named.refusal, r.found);
+        match p {
+            Target::Refused(n) => Taken {
                 answer: Giving::Refused(n),
                 table: self,
             },
-            Lookup::Open(i) => {
+            Target::At(i) => {
                 let mut x = self.slots[i];
                 let row = x.row;
                 let o = row.take(time);
@@ -133,10 +113,6 @@ impl Table {
                     table: self,
                 }
             }
-            Lookup::Unknown => Taken {
-                answer: Giving::Refused(refusals::NO_SUCH_STREAM),
-                table: self,
-            },
         }
     }
 
@@ -146,14 +122,15 @@ impl Table {
     {
         let named = keys::name(originator, stream_id);
         let key = named.key;
-        let r = rules::test(self, key);
-        let l = calls::standing(r, named.refusal);
-        match l {
-            Lookup::Refused(n) => Taken {
+        let slots = self.slots;
+        let r = slot_rules::test(slots, key);
+        let p = lookups::known(r.good, named.refusal, r.found);
+        match p {
+            Target::Refused(n) => Taken {
                 answer: Giving::Refused(n),
                 table: self,
             },
-            Lookup::Open(i) => {
+            Target::At(i) => {
                 let mut x = self.slots[i];
                 let row = x.row;
                 let o = row.force(time);
@@ -166,10 +143,6 @@ impl Table {
                     table: self,
                 }
             }
-            Lookup::Unknown => Taken {
-                answer: Giving::Refused(refusals::NO_SUCH_STREAM),
-                table: self,
-            },
         }
     }
 
@@ -179,14 +152,15 @@ impl Table {
     {
         let named = keys::name(originator, stream_id);
         let key = named.key;
-        let r = rules::test(self, key);
-        let l = calls::standing(r, named.refusal);
-        match l {
-            Lookup::Refused(n) => Served {
+        let slots = self.slots;
+        let r = slot_rules::test(slots, key);
+        let p = lookups::known(r.good, named.refusal, r.found);
+        match p {
+            Target::Refused(n) => Served {
                 answer: Accepting::Refused(n),
                 table: self,
             },
-            Lookup::Open(i) => {
+            Target::At(i) => {
                 if self.slots[i].row.count != 0 {
                     return Served {
                         answer: Accepting::Refused(refusals::STILL_HOLDING),
@@ -199,10 +173,6 @@ impl Table {
                     table: self,
                 }
             }
-            Lookup::Unknown => Served {
-                answer: Accepting::Refused(refusals::NO_SUCH_STREAM),
-                table: self,
-            },
         }
     }
 
@@ -211,19 +181,12 @@ impl Table {
         ensures { λ r. ⌜ countSays r ≡ openRows self ⌝ }
     {
         let key = keys::none();
-        let r = rules::test(self, key);
+        let slots = self.slots;
+        let r = slot_rules::test(slots, key);
         if !r.good {
             return Count::Refused(refusals::STATE_BROKEN);
         }
-        let mut sum: usize = 0;
-        let mut i: usize = 0;
-        while i < 32 {
-            if self.slots[i].used {
-                sum += 1;
-            }
-            i += 1;
-        }
-        Count::Rows(sum)
+        Count::Rows(r.rows)
     }
 
     // Row `number`, 0 to 31, with its key.
@@ -231,16 +194,17 @@ impl Table {
         ensures { λ r. ⌜ shownSays r ≡ rowAt self number ⌝ }
     {
         let key = keys::none();
-        let r = rules::test(self, key);
+        let slots = self.slots;
+        let r = slot_rules::test(slots, key);
         if !r.good {
-            return calls::unseen(refusals::STATE_BROKEN);
+            return unseen(refusals::STATE_BROKEN);
         }
         if number >= 32 {
-            return calls::unseen(refusals::NO_SUCH_STREAM);
+            return unseen(refusals::NO_SUCH_STREAM);
         }
         let x = self.slots[number];
         if !x.used {
-            return calls::unseen(refusals::NO_SUCH_STREAM);
+            return unseen(refusals::NO_SUCH_STREAM);
         }
         let key = x.key;
         let row = x.row;
@@ -249,5 +213,17 @@ impl Table {
             key: key,
             row: row,
         }
+    }
+}
+
+fn unseen(n: u8) -> Shown
+    ensures { λ r. ⌜ shownSays r ≡ record { answer = refused n; key = noKey; row = noRow } ⌝ }
+{
+    let key = keys::none();
+    let row = Row::none();
+    Shown {
+        answer: Accepting::Refused(n),
+        key: key,
+        row: row,
     }
 }

@@ -1,5 +1,5 @@
 -- What the code says and returns is the turn that the definitions have.
-use mathlib.Core.Path.{_≡_, sym, ap, _∙_, subst}
+use mathlib.Core.Path.{_≡_, sym, ap, _∙_}
 use Prim.Native.Nat.{ℕ}
 use mathlib.Core.Bool.{true, false}
 use mathlib.Core.List.{List, []}
@@ -20,30 +20,33 @@ use Rattle.line.specs.declared.Line.{Line}
 use Rattle.line.specs.Reading.{blankLine, readOf, Outcome, Reading}
 use Rattle.phrases.specs.declared.Kind.{Kind}
 use Rattle.phrases.specs.Lines.{kindOf, isData}
-use Rattle.phrases.specs.Replies.{acks, bads, wrote}
+use Rattle.replies.specs.declared.Reply.{Reply}
+use Rattle.replies.specs.Replies.{acks, bads, wrote}
 use Rattle.talk.specs.declared.Terms.{Terms}
 use Rattle.talk.specs.declared.Session.{Session}
-use Rattle.talk.specs.Answer.{Happened, Happening, Telling}
-use Rattle.talk.specs.Sessions.{termsOf, keepsTerms, salted, listening, receiving}
-use Rattle.talk.specs.Talk.{Turn, nothing, message, closing, goingOn, offered, heardAs, heard, completed, dataHeard, toldIn}
+use Rattle.talk.specs.declared.Event.{Event}
+use Rattle.talk.specs.declared.Stop.{Stop}
+use Rattle.talk.specs.declared.Due.{Due}
+use Rattle.talk.specs.Answer.{Telling}
+use Rattle.talk.specs.Sessions.{termsOf, keepsTerms, salted, listening, promised, receiving}
+use Rattle.talk.specs.Talk.{Turn, nothing, message, closing, goingOn, offered, heardAs, heard, completed, dataHeard, lineHeard, turnAt, turnIn, due, toldIn}
 
--- what was said, and what the reply buffer then holds, are the turn's
-abbrev pub Says : Turn → List ℕ → Telling → List ℕ → Type 0
-Says t buffer r after = (r ≡ toldIn t buffer) × (after ≡ placed (t .reply) 0 buffer)
+-- what is due is a turn, where it is known which
+pub turn-as : (s : List ℕ) (d e : Due) (u : Turn) → d ≡ e → u ≡ turnIn s e → turnIn s d ≡ u
+turn-as s d e u p q = ap (turnIn s) p ∙ sym q
 
 -- from its parts
-pub says-by : (t : Turn) (buffer : List ℕ) (w : ℕ) (e : Happened) (m : Line) (s : Session) (after : List ℕ) → e ≡ t .happening .what → m ≡ t .happening .line → s ≡ t .next
-    → (w ≡ wrote (t .reply) buffer) × (after ≡ placed (t .reply) 0 buffer) → Says t buffer (record { written = w; happening = record { what = e; line = m }; next = s }) after
-says-by t buffer w e m s after p q z k = (λ i. record { written = k .0 i; happening = record { what = p i; line = q i }; next = z i }, k .1)
+pub plain-is : (w : Reply) (e : Event) (m : Line) (s : Session) → m ≡ blankLine → _≡_ {A = Due} (record { reply = w; event = e; line = m; session = s }) (due w e s)
+plain-is w e m s p = λ i. record { reply = w; event = e; line = p i; session = s }
 
--- of a turn that is the same
-pub says-as : (t u : Turn) (buffer : List ℕ) (r : Telling) (after : List ℕ) → u ≡ t → Says t buffer r after → Says u buffer r after
-says-as t u buffer r after e k = subst (λ (x : Turn). Says x buffer r after) (sym e) k
+pub next-is : (w : Reply) (e : Event) (x y : Session) (d : Due) → x ≡ y → d ≡ due w e x → d ≡ due w e y
+next-is w e x y d p q = q ∙ ap (due w e) p
 
--- and of one that leads to the same session
-pub says-next : (w : List ℕ) (h : Happening) (x y : Session) (buffer : List ℕ) (r : Telling) (after : List ℕ) → x ≡ y
-    → Says (record { reply = w; happening = h; next = x }) buffer r after → Says (record { reply = w; happening = h; next = y }) buffer r after
-says-next w h x y buffer r after e k = subst (λ (z : Session). Says (record { reply = w; happening = h; next = z }) buffer r after) e k
+-- what was said, and what the reply buffer then holds, are the turn's
+pub said-by : (t u : Turn) (buffer after : List ℕ) (w : ℕ) → t ≡ u → (w ≡ wrote (t .reply) buffer) × (after ≡ placed (t .reply) 0 buffer)
+    → (_≡_ {A = Telling} (record { written = w; happening = t .happening; next = t .next }) (toldIn u buffer)) × (after ≡ placed (u .reply) 0 buffer)
+said-by t u buffer after w e k =
+    ((λ i. record { written = k .0 i; happening = t .happening; next = t .next }) ∙ ap (λ (x : Turn). toldIn x buffer) e, k .1 ∙ ap (λ (x : Turn). placed (x .reply) 0 buffer) e)
 
 -- ---- the numbers of an offer
 
@@ -103,12 +106,26 @@ blank-is e q = λ i. record { len = 0; fields = q i }
 pub terms-by : (m : Line) (z : ℤ) → z ≡ m .fields .salt → _≡_ {A = Terms} (record { id = m .fields .id; «has_salt» = m .fields .«has_salt»; salt = z; len = m .len }) (termsOf m)
 terms-by m z e = λ i. record { id = m .fields .id; «has_salt» = m .fields .«has_salt»; salt = e i; len = m .len }
 
--- the turn of what was read, where it is known which it is
-pub offered-as : (s buffer after : List ℕ) (a : Outcome) (x : Reading) (r : Telling) → a ≡ readOf s → x ≡ a .reading → Says (offered s x (a .line)) buffer r after
-    → Says (offered s (readOf s .reading) (readOf s .line)) buffer r after
-offered-as s buffer after a x r p q k =
-    subst (λ (y : Outcome). Says (offered s (y .reading) (y .line)) buffer r after) p (subst (λ (z : Reading). Says (offered s z (a .line)) buffer r after) q k)
+-- what is promised
+pub promise-is : (m : Line) (t : Terms) (x : Session) → t ≡ termsOf m → x ≡ promised (termsOf m)
+    → _≡_ {A = Due} (record { reply = Reply.Send (m .fields .id); event = Event.Offer t; line = m; session = x })
+    (record { reply = Reply.Send (m .fields .id); event = Event.Offer (termsOf m); line = m; session = promised (termsOf m) })
+promise-is m t x p q = λ i. record { reply = Reply.Send (m .fields .id); event = Event.Offer (p i); line = m; session = q i }
 
-pub heard-as : (s buffer after : List ℕ) (k : Kind) (r : Telling) → k ≡ kindOf s → (x : Kind) → k ≡ x → Says (heardAs x s) buffer r after → Says (heard s) buffer r after
-unfolding heard
-heard-as s buffer after k r e x q h = subst (λ (y : Kind). Says (heardAs y s) buffer r after) (sym q ∙ e) h
+-- the turn of what was read, where it is known which it is
+pub offered-as : (s : List ℕ) (a : Outcome) (x : Reading) (d : Due) → a ≡ readOf s → x ≡ a .reading → turnIn s d ≡ offered s x (a .line)
+    → turnIn s d ≡ offered s (readOf s .reading) (readOf s .line)
+offered-as s a x d p q k = k ∙ ap (λ (z : Reading). offered s z (a .line)) q ∙ ap (λ (y : Outcome). offered s (y .reading) (y .line)) p
+
+-- a line between messages, by its kind, and the line after `send`
+module _ (z : Session) (s : List ℕ) (d : Due) where
+  pub first-as : (k x : Kind) → z .mode ≡ 0 → k ≡ kindOf s → k ≡ x → turnIn s d ≡ heardAs x s → turnIn s d ≡ lineHeard z s
+  unfolding heard
+  first-as k x m e q h = h ∙ ap (λ (y : Kind). heardAs y s) (sym q ∙ e) ∙ sym (if-yes _ _ _ (eq-eqb _ _ m))
+
+  pub data-as : (z .mode ≡ 0 → ⊥) → turnIn s d ≡ dataHeard (z .terms) s → turnIn s d ≡ lineHeard z s
+  data-as m h = h ∙ sym (if-no _ _ _ (ne-eqb _ _ m))
+
+-- by what the bytes came to
+pub stop-as : (x y : Stop) (z : Session) (s : List ℕ) (d : Due) → x ≡ y → turnIn s d ≡ turnAt y z s → turnIn s d ≡ turnAt x z s
+stop-as x y z s d e k = k ∙ ap (λ (w : Stop). turnAt w z s) (sym e)

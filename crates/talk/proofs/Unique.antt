@@ -4,8 +4,6 @@ use Rattle.octets.specs.Unique.{One, Free}
 use Rattle.talk.specs.declared.Event.{Event}
 use Rattle.talk.specs.declared.Said.{Said}
 use Rattle.talk.specs.Answer.{Telling, happened, says}
-use Rattle.talk.proofs.no_line.Kinds as no-line-kinds
-use Rattle.talk.proofs.no_line.Reads as no-line-reads
 use Rattle.talk.proofs.keep_rules.Kinds as keep-rules-kinds
 use Rattle.talk.proofs.keep_rules.Reads as keep-rules-reads
 use Rattle.talk.proofs.listening.Kinds as listening-kinds
@@ -14,10 +12,6 @@ use Rattle.talk.proofs.closed.Kinds as closed-kinds
 use Rattle.talk.proofs.closed.Reads as closed-reads
 use Rattle.talk.proofs.hear.Kinds as hear-kinds
 use Rattle.talk.proofs.hear.Reads as hear-reads
-use Rattle.talk.proofs.hear_data.Kinds as hear-data-kinds
-use Rattle.talk.proofs.hear_data.Reads as hear-data-reads
-use Rattle.talk.proofs.complete.Kinds as complete-kinds
-use Rattle.talk.proofs.complete.Reads as complete-reads
 
 -- what an event says is said by that event only
 pub one-event : (x y : Event) → happened x ≡ happened y → x ≡ y
@@ -55,32 +49,14 @@ closed-one κs a x y v w p q = (p ∙ sym q, refl)
 pub closed-free : Free 0 closed-kinds.ps closed-reads.Pre
 closed-free κs a = tt
 
-pub no-line-one : One 0 no-line-kinds.ps no-line-kinds.r no-line-reads.Post
-no-line-one κs a x y v w p q = (p ∙ sym q, refl)
-
-pub no-line-free : Free 0 no-line-kinds.ps no-line-reads.Pre
-no-line-free κs a = tt
-
 pub keep-rules-one : One 0 keep-rules-kinds.ps keep-rules-kinds.r keep-rules-reads.Post
 keep-rules-one κs a x y v w p q = (p ∙ sym q, refl)
 
 pub keep-rules-free : Free 0 keep-rules-kinds.ps keep-rules-reads.Pre
 keep-rules-free κs a = tt
 
-pub hear-one : One 2 hear-kinds.ps hear-kinds.r hear-reads.Post
-hear-one κs a x y v w p q = (one-said x y (p .0 ∙ sym (q .0)), λ i. (tt, ((p .1 ∙ sym (q .1)) i, tt)))
+pub hear-one : One 1 hear-kinds.ps hear-kinds.r hear-reads.Post
+hear-one κs a x y v w p q = (one-said x y (p .0 ∙ sym (q .0)), λ i. (tt, (tt, ((p .1 ∙ sym (q .1)) i, tt))))
 
-pub hear-free : Free 2 hear-kinds.ps hear-reads.Pre
+pub hear-free : Free 1 hear-kinds.ps hear-reads.Pre
 hear-free κs a = tt
-
-pub hear-data-one : One 2 hear-data-kinds.ps hear-data-kinds.r hear-data-reads.Post
-hear-data-one κs a x y v w p q = (one-said x y (p .0 ∙ sym (q .0)), λ i. (tt, (tt, ((p .1 ∙ sym (q .1)) i, tt))))
-
-pub hear-data-free : Free 2 hear-data-kinds.ps hear-data-reads.Pre
-hear-data-free κs a = tt
-
-pub complete-one : One 1 complete-kinds.ps complete-kinds.r complete-reads.Post
-complete-one κs a x y v w p q = (one-said x y (p .0 ∙ sym (q .0)), λ i. (tt, (tt, ((p .1 ∙ sym (q .1)) i, tt))))
-
-pub complete-free : Free 1 complete-kinds.ps complete-reads.Pre
-complete-free κs a = tt

@@ -1,4 +1,5 @@
 -- Document 01, "The receiving session": what a whole line and a whole payload lead to: the reply, what happened, and the session after it.
+use mathlib.Core.Path.{_≡_}
 use Prim.Native.Nat.{ℕ}
 use mathlib.Core.List.{List, [], _++_}
 use Rattle.octets.specs.Words.{if_then_else_, _and_, _=?_}
@@ -6,13 +7,16 @@ use Rattle.sha1.specs.declared.Sha1.{Sha1}
 use Rattle.sha1.specs.Machine.{finished}
 use Rattle.sha1.specs.Id.{idNumber}
 use Rattle.line.specs.declared.Line.{Line}
-use Rattle.line.specs.Reading.{Reading}
-use Rattle.line.specs.Reading.{blankLine, readOf}
+use Rattle.line.specs.Reading.{Reading, blankLine, readOf}
 use Rattle.phrases.specs.declared.Kind.{Kind}
-use Rattle.phrases.specs.Lines.{kindOf, isData, tokenOf}
-use Rattle.phrases.specs.Replies.{LF, 'error', sends, errs, acks, bads, bye, help, eh, wrote}
+use Rattle.phrases.specs.Lines.{kindOf, isData}
+use Rattle.replies.specs.declared.Reply.{Reply}
+use Rattle.replies.specs.Replies.{LF, 'error', tokenOf, sends, errs, acks, bads, bye, help, eh, replyText, wrote}
 use Rattle.talk.specs.declared.Terms.{Terms}
 use Rattle.talk.specs.declared.Session.{Session}
+use Rattle.talk.specs.declared.Event.{Event}
+use Rattle.talk.specs.declared.Stop.{Stop}
+use Rattle.talk.specs.declared.Due.{Due}
 use Rattle.talk.specs.Answer.{Happening, Telling}
 use Rattle.talk.specs.Answer as what
 use Rattle.talk.specs.Sessions.{termsOf, keepsTerms, salted, listening, promised, receiving, closed}
@@ -74,6 +78,31 @@ unfoldable pub dataHeard : Terms → List ℕ → Turn
 dataHeard t s =
     if keepsTerms t and isData (t .id) s then (if t .len =? 0 then completed t (salted t) else record { reply = []; happening = nothing; next = receiving t })
     else closing [] 1
+
+-- ---- a line that is whole: between messages, or after `send`
+
+abbrev pub lineHeard : Session → List ℕ → Turn
+lineHeard s text = if s .mode =? 0 then heard text else dataHeard (s .terms) text
+
+-- ---- what the bytes taken in lead to: quiet ones to nothing; a line or a payload that is whole; a 513th byte closes, nothing written
+
+abbrev pub turnAt : Stop → Session → List ℕ → Turn
+turnAt Stop.Quiet s text = record { reply = []; happening = nothing; next = s }
+turnAt Stop.Line s text = lineHeard s text
+turnAt Stop.Payload s text = completed (s .terms) (s .hash)
+turnAt Stop.Overlong s text = closing [] 1
+
+-- what is due on a line, as a turn; and what is due with no line's fields
+
+abbrev pub turnIn : List ℕ → Due → Turn
+turnIn s d = record { reply = replyText (d .reply) s; happening = record { what = what.happened (d .event); line = d .line }; next = d .session }
+
+abbrev pub due : Reply → Event → Session → Due
+due w e s = record { reply = w; event = e; line = blankLine; session = s }
+
+-- what is due on a payload that is whole, whatever line was before it
+abbrev pub Completes : Due → Terms → Sha1 → Type 0
+Completes d t h = (s : List ℕ) → turnIn s d ≡ completed t h
 
 -- ---- the reply stands at the front of a lent buffer
 

@@ -1,17 +1,15 @@
 // Document 01, "The receiving session": what a whole line and a whole payload lead to.
 ghost use mathlib.Core.Path.{_≡_};
 ghost use Rattle.octets.specs.Bytes.{placed};
-ghost use Rattle.line.specs.Reading.{blankLine};
 ghost use Rattle.talk.specs.Answer.{says};
-ghost use Rattle.talk.specs.Sessions.{keepsTerms, listening, closed};
-ghost use Rattle.talk.specs.Talk.{completed, heard, dataHeard, toldIn};
+ghost use Rattle.talk.specs.Sessions.{keepsTerms, lineSoFar, listening, closed};
+ghost use Rattle.talk.specs.Talk.{turnAt, toldIn};
 
 mod lines;
 mod states;
 
 use line::Line;
-use phrases::Reply;
-use sha1::Salt;
+use replies::Reply;
 use sha1::Sha1;
 
 // The numbers of an offer: its id (28 bits), its salt where it has one, and the payload's length.
@@ -54,6 +52,22 @@ pub struct Said {
     pub session: Session,
 }
 
+// What a call's bytes come to: quiet ones alone; a line that is whole; a payload that is whole; a line with a 513th byte.
+pub enum Stop {
+    Quiet,
+    Line,
+    Payload,
+    Overlong,
+}
+
+// What is due: the reply, what happened with the fields of its line, and the session after it.
+pub struct Due {
+    pub reply: Reply,
+    pub event: Event,
+    pub line: Line,
+    pub session: Session,
+}
+
 // A session between messages.
 pub fn listening() -> Session
     ensures { λ r. ⌜ r ≡ listening ⌝ }
@@ -68,14 +82,6 @@ pub fn closed() -> Session
     states::entered(3, states::no_terms(), Sha1::new())
 }
 
-// The line of no offer.
-pub fn no_line() -> Line
-    ensures { λ r. ⌜ r ≡ blankLine ⌝ }
-{
-    let fields = envelope::blank();
-    Line { len: 0, fields }
-}
-
 // Whether an offer may have these numbers.
 pub fn keep_rules(t: Terms) -> bool
     ensures { λ r. ⌜ r ≡ keepsTerms t ⌝ }
@@ -86,54 +92,22 @@ pub fn keep_rules(t: Terms) -> bool
     t.len as usize <= refusals::LONGEST_PAYLOAD
 }
 
-// A line between messages.
-pub fn hear(s: &[u8], reply: &mut [u8]) -> Said
-    ensures { λ r. ⌜ (says r ≡ toldIn (heard (now (s .entry))) (now (reply .entry))) × (now (reply .exit) ≡ placed (heard (now (s .entry)) .reply) 0 (now (reply .entry))) ⌝ }
+// What the bytes that a session has taken in lead to; the reply stands at the front of a lent buffer.
+pub fn hear(stop: Stop, s: Session, reply: &mut [u8]) -> Said
+    ensures { λ r. ⌜ (says r ≡ toldIn (turnAt stop s (lineSoFar s)) (now (reply .entry))) × (now (reply .exit) ≡ placed (turnAt stop s (lineSoFar s) .reply) 0 (now (reply .entry))) ⌝ }
 {
-    let k = phrases::kind_of(s);
-    match k {
-        phrases::Kind::Ihave => lines::hear_offer(s, reply),
-        phrases::Kind::Data => lines::ends(Reply::Error, &s[0..0], 1, reply),
-        phrases::Kind::Leave => lines::ends(Reply::Bye, s, 0, reply),
-        phrases::Kind::Ask => lines::goes_on(Reply::Help, s, reply),
-        phrases::Kind::Other => lines::goes_on(Reply::Eh, s, reply),
+    let held = s;
+    let text = lengths::part(&held.line, s.line_len);
+    let due = lines::stopped(stop, s, text);
+    let what = due.reply;
+    let event = due.event;
+    let line = due.line;
+    let session = due.session;
+    let written = replies::say(what, text, reply);
+    Said {
+        written,
+        event,
+        line,
+        session,
     }
-}
-
-// The line after `send`.
-pub fn hear_data(terms: Terms, s: &[u8], reply: &mut [u8]) -> Said
-    ensures { λ r. ⌜ (says r ≡ toldIn (dataHeard terms (now (s .entry))) (now (reply .entry))) × (now (reply .exit) ≡ placed (dataHeard terms (now (s .entry)) .reply) 0 (now (reply .entry))) ⌝ }
-{
-    if !keep_rules(terms) {
-        return lines::ends(Reply::Silence, b"", 1, reply);
-    }
-    if !phrases::is_data(terms.id, s) {
-        return lines::ends(Reply::Silence, s, 1, reply);
-    }
-    let hash = Sha1::salted(Salt {
-        given: terms.has_salt,
-        value: terms.salt,
-    });
-    if terms.len == 0 {
-        return complete(terms, hash, reply);
-    }
-    let session = states::entered(2, terms, hash);
-    lines::tell(Reply::Silence, s, Event::Nothing, session, reply)
-}
-
-// A payload that is there as a whole, by its digest.
-pub fn complete(terms: Terms, hash: Sha1, reply: &mut [u8]) -> Said
-    ensures { λ r. ⌜ (says r ≡ toldIn (completed terms hash) (now (reply .entry))) × (now (reply .exit) ≡ placed (completed terms hash .reply) 0 (now (reply .entry))) ⌝ }
-{
-    let id = terms.id;
-    if hash.first_28_bits() != id {
-        return lines::goes_on(Reply::Bad(id), b"", reply);
-    }
-    lines::tell(
-        Reply::Ack(id),
-        b"",
-        Event::Message(terms),
-        listening(),
-        reply,
-    )
 }

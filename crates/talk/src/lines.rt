@@ -1,30 +1,30 @@
-// What a line between messages leads to, kind by kind.
+// What is due on a line or a payload that is whole.
+use crate::Due;
 use crate::Ending;
 use crate::Event;
-use crate::Said;
 use crate::Session;
+use crate::Stop;
 use crate::Terms;
 use crate::states;
 use line::Line;
 use line::LineReading;
-use phrases::Reply;
+use replies::Reply;
+use sha1::Salt;
 use sha1::Sha1;
 ghost use mathlib.Core.Path.{_≡_};
-ghost use Rattle.octets.specs.Bytes.{placed};
-ghost use Rattle.line.specs.Reading.{Reading};
-ghost use Rattle.line.specs.Reading.{blankLine, readOf};
-ghost use Rattle.phrases.specs.Replies.{replyText};
-ghost use Rattle.talk.specs.Answer.{happened, says};
-ghost use Rattle.talk.specs.Talk.{offered, closing, goingOn, toldIn};
+ghost use Rattle.line.specs.Reading.{readOf};
+ghost use Rattle.replies.specs.declared.Reply.{Reply};
+ghost use Rattle.talk.specs.declared.Event.{Event};
+ghost use Rattle.talk.specs.Sessions.{termsOf, listening, promised, closed};
+ghost use Rattle.talk.specs.Talk.{Completes, offered, dataHeard, lineHeard, turnAt, due, turnIn};
 
 // A reply, what happened, and the session after it, with no line's fields.
-pub(crate) fn tell(what: Reply, s: &[u8], event: Event, session: Session, reply: &mut [u8]) -> Said
-    ensures { λ r. ⌜ (says r ≡ toldIn (record { reply = replyText what (now (s .entry)); happening = record { what = happened event; line = blankLine }; next = session }) (now (reply .entry))) × (now (reply .exit) ≡ placed (replyText what (now (s .entry))) 0 (now (reply .entry))) ⌝ }
+fn plain(reply: Reply, event: Event, session: Session) -> Due
+    ensures { λ r. ⌜ r ≡ due reply event session ⌝ }
 {
-    let written = phrases::say(what, s, reply);
-    let line = crate::no_line();
-    Said {
-        written,
+    let line = states::no_line();
+    Due {
+        reply,
         event,
         line,
         session,
@@ -32,36 +32,34 @@ pub(crate) fn tell(what: Reply, s: &[u8], event: Event, session: Session, reply:
 }
 
 // A reply, and the session is closed for a reason.
-pub(crate) fn ends(what: Reply, s: &[u8], reason: u8, reply: &mut [u8]) -> Said
-    ensures { λ r. ⌜ (says r ≡ toldIn (closing (replyText what (now (s .entry))) reason) (now (reply .entry))) × (now (reply .exit) ≡ placed (replyText what (now (s .entry))) 0 (now (reply .entry))) ⌝ }
+fn ends(reply: Reply, reason: u8) -> Due
+    ensures { λ r. ⌜ r ≡ due reply (Event.End (record { reason = reason })) closed ⌝ }
 {
     let ending = Ending { reason };
-    tell(what, s, Event::End(ending), crate::closed(), reply)
+    plain(reply, Event::End(ending), crate::closed())
 }
 
 // A reply, and the next line is waited for.
-pub(crate) fn goes_on(what: Reply, s: &[u8], reply: &mut [u8]) -> Said
-    ensures { λ r. ⌜ (says r ≡ toldIn (goingOn (replyText what (now (s .entry)))) (now (reply .entry))) × (now (reply .exit) ≡ placed (replyText what (now (s .entry))) 0 (now (reply .entry))) ⌝ }
+fn goes_on(reply: Reply) -> Due
+    ensures { λ r. ⌜ r ≡ due reply Event.Nothing listening ⌝ }
 {
-    tell(what, s, Event::Nothing, crate::listening(), reply)
+    plain(reply, Event::Nothing, crate::listening())
 }
 
-// An `ihave` line: a valid one is promised, an invalid one ends the session for its own reason.
-pub(crate) fn hear_offer(s: &[u8], reply: &mut [u8]) -> Said
-    ensures { λ r. ⌜ (says r ≡ toldIn (offered (now (s .entry)) (readOf (now (s .entry)) .reading) (readOf (now (s .entry)) .line)) (now (reply .entry))) × (now (reply .exit) ≡ placed (offered (now (s .entry)) (readOf (now (s .entry)) .reading) (readOf (now (s .entry)) .line) .reply) 0 (now (reply .entry))) ⌝ }
+// A payload that is there as a whole, by its digest.
+fn complete(terms: Terms, hash: Sha1) -> Due
+    ensures { λ r. ⌜ Completes r terms hash ⌝ }
 {
-    let a = line::read_line(s);
-    let line = a.line;
-    let reading = a.reading;
-    match reading {
-        LineReading::Refused(n) => ends(Reply::Error, s, n, reply),
-        LineReading::Read => promise(line, s, reply),
+    let id = terms.id;
+    if hash.first_28_bits() != id {
+        return goes_on(Reply::Bad(id));
     }
+    plain(Reply::Ack(id), Event::Message(terms), crate::listening())
 }
 
 // `send ID`, and the next line must be its `data`.
-fn promise(line: Line, s: &[u8], reply: &mut [u8]) -> Said
-    ensures { λ r. ⌜ (says r ≡ toldIn (offered (now (s .entry)) Reading.Read line) (now (reply .entry))) × (now (reply .exit) ≡ placed (offered (now (s .entry)) Reading.Read line .reply) 0 (now (reply .entry))) ⌝ }
+fn promise(line: Line) -> Due
+    ensures { λ r. ⌜ r ≡ record { reply = Reply.Send (line .fields .id); event = Event.Offer (termsOf line); line = line; session = promised (termsOf line) } ⌝ }
 {
     let terms = Terms {
         id: line.fields.id,
@@ -69,13 +67,78 @@ fn promise(line: Line, s: &[u8], reply: &mut [u8]) -> Said
         salt: line.fields.salt,
         len: line.len,
     };
-    let written = phrases::say(Reply::Send(terms.id), s, reply);
     let session = states::entered(1, terms, Sha1::new());
-    let event = Event::Offer(terms);
-    Said {
-        written,
-        event,
+    Due {
+        reply: Reply::Send(terms.id),
+        event: Event::Offer(terms),
         line,
         session,
+    }
+}
+
+// An `ihave` line: a valid one is promised, an invalid one ends the session for its own reason.
+fn hear_offer(s: &[u8]) -> Due
+    ensures { λ r. ⌜ turnIn (now (s .entry)) r ≡ offered (now (s .entry)) (readOf (now (s .entry)) .reading) (readOf (now (s .entry)) .line) ⌝ }
+{
+    let a = line::read_line(s);
+    let line = a.line;
+    let reading = a.reading;
+    match reading {
+        LineReading::Refused(n) => ends(Reply::ErrorToken, n),
+        LineReading::Read => promise(line),
+    }
+}
+
+// The line after `send`.
+fn hear_data(terms: Terms, s: &[u8]) -> Due
+    ensures { λ r. ⌜ turnIn (now (s .entry)) r ≡ dataHeard terms (now (s .entry)) ⌝ }
+{
+    if !crate::keep_rules(terms) {
+        return ends(Reply::Silence, 1);
+    }
+    if !phrases::is_data(terms.id, s) {
+        return ends(Reply::Silence, 1);
+    }
+    let hash = Sha1::salted(Salt {
+        given: terms.has_salt,
+        value: terms.salt,
+    });
+    if terms.len == 0 {
+        return complete(terms, hash);
+    }
+    plain(
+        Reply::Silence,
+        Event::Nothing,
+        states::entered(2, terms, hash),
+    )
+}
+
+// A line that is whole: after `send`, or between messages.
+fn hear_line(s: Session, text: &[u8]) -> Due
+    ensures { λ r. ⌜ turnIn (now (text .entry)) r ≡ lineHeard s (now (text .entry)) ⌝ }
+{
+    if s.mode != 0 {
+        let terms = s.terms;
+        return hear_data(terms, text);
+    }
+    let k = phrases::kind_of(text);
+    match k {
+        phrases::Kind::Ihave => hear_offer(text),
+        phrases::Kind::Data => ends(Reply::Error, 1),
+        phrases::Kind::Leave => ends(Reply::Bye, 0),
+        phrases::Kind::Ask => goes_on(Reply::Help),
+        phrases::Kind::Other => goes_on(Reply::Eh),
+    }
+}
+
+// By what the bytes came to.
+pub(crate) fn stopped(stop: Stop, s: Session, text: &[u8]) -> Due
+    ensures { λ r. ⌜ turnIn (now (text .entry)) r ≡ turnAt stop s (now (text .entry)) ⌝ }
+{
+    match stop {
+        Stop::Quiet => plain(Reply::Silence, Event::Nothing, s),
+        Stop::Line => hear_line(s, text),
+        Stop::Payload => complete(s.terms, s.hash),
+        Stop::Overlong => ends(Reply::Silence, 1),
     }
 }

@@ -36,8 +36,8 @@ abbrev pub keys : List Token → List (List ℕ)
 keys ts = map (λ (t : Token). t .key) ts
 
 -- whether a key is there, and its value: that of the first token with the key, empty where there is none
-unfoldable pub given : List ℕ → List Token → Bool
-given k ts = some (same k) (keys ts)
+unfoldable pub present : List ℕ → List Token → Bool
+present k ts = some (same k) (keys ts)
 
 unfoldable pub value : List ℕ → List Token → List ℕ
 value k [] = []

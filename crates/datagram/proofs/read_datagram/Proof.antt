@@ -5,8 +5,11 @@ use borrow.Author.Needs.{needs}
 use borrow.Author.Tests.{not-true, not-false}
 use lib.ListN.{length}
 use Rattle.octets.proofs.FieldLaws.{num-laws}
-use Rattle.datagram_numbers.proofs.Answers.{short32, got32}
+use Rattle.layout.specs.Layout.{message}
+use Rattle.layout.proofs.Valid.{message-laws}
+use Rattle.datagram_numbers.proofs.Answers.{short32, got32, said}
 use Rattle.datagram_numbers.proofs.Chains.{tail}
+use Rattle.datagram_fields.proofs.Says.{says-message}
 use Rattle.datagram.proofs.Whole.{empty, other-version, no-fields, no-length, too-long, other-length, whole-room, read-whole}
 use Rattle.datagram.proofs.read_datagram.Statement.{statement}
 use Rattle.datagram.proofs.read_datagram.Tie as tie
@@ -28,7 +31,19 @@ returns-3 c =
     let at-if1 = c .before .before .before .before .before .before .before .if1 in
     let at-if2 = c .before .before .before .before .before .if2 in
     let at-read-message = c .before .before .before .read-message in
-    c .refuse3 .ensures ∙ no-fields (at-args .d .now) (at-if1 .left) (at-if2 .left) _ _ _ (at-read-message .ensures) (not-true _ (c .before .if3 .taken))
+    c .refuse3 .ensures ∙ no-fields (at-args .d .now) (at-if1 .left) (at-if2 .left) _ _ _ (said says-message message message-laws (tail 1 (at-args .d .now)) (at-read-message .result) (at-read-message .ensures)) (not-true _ (c .before .if3 .taken))
+
+sub-d2 : tie.Need-sub-d2
+sub-d2 c =
+    let at-args = c .before .before .before .before .before .before .before .before .args in
+    let at-read-message = c .before .before .read-message in
+    (said says-message message message-laws (tail 1 (at-args .d .now)) (at-read-message .result) (at-read-message .ensures)) .1
+
+part-d2-start : tie.Need-part-d2-start
+part-d2-start c =
+    let at-args = c .before .before .before .before .before .before .before .before .args in
+    let at-read-message = c .before .before .read-message in
+    (said says-message message message-laws (tail 1 (at-args .d .now)) (at-read-message .result) (at-read-message .ensures)) .1
 
 returns-4 : tie.Need-returns-4
 returns-4 c =
@@ -38,7 +53,7 @@ returns-4 c =
     let at-read-message = c .before .before .before .before .before .before .before .read-message in
     let at-if3 = c .before .before .before .before .before .if3 in
     let at-read-u32 = c .before .before .before .read-u32 in
-    c .refuse4 .ensures ∙ no-length (at-args .d .now) (at-if1 .left) (at-if2 .left) _ _ _ (at-read-message .ensures) (not-false _ (at-if3 .left)) (short32 _ (at-read-u32 .result) (at-read-u32 .ensures) (c .before .enum-told .given .1))
+    c .refuse4 .ensures ∙ no-length (at-args .d .now) (at-if1 .left) (at-if2 .left) _ _ _ (said says-message message message-laws (tail 1 (at-args .d .now)) (at-read-message .result) (at-read-message .ensures)) (not-false _ (at-if3 .left)) (short32 _ (at-read-u32 .result) (at-read-u32 .ensures) (c .before .enum-told .given .1))
 
 returns-5 : tie.Need-returns-5
 returns-5 c =
@@ -49,7 +64,7 @@ returns-5 c =
     let at-if3 = c .before .before .before .before .before .before .before .if3 in
     let at-l = c .before .before .before .l in
     let at-read-u32 = c .before .before .before .before .before .read-u32 in
-    c .refuse5 .ensures ∙ too-long (at-args .d .now) (at-if1 .left) (at-if2 .left) _ _ _ (at-read-message .ensures) (not-false _ (at-if3 .left)) (at-l .given .0 .0) (at-l .given .0 .1 .0) (got32 _ (at-read-u32 .result) _ _ (at-read-u32 .ensures) (at-l .given .1)) (c .before .if4 .taken)
+    c .refuse5 .ensures ∙ too-long (at-args .d .now) (at-if1 .left) (at-if2 .left) _ _ _ (said says-message message message-laws (tail 1 (at-args .d .now)) (at-read-message .result) (at-read-message .ensures)) (not-false _ (at-if3 .left)) (at-l .given .0 .0) (at-l .given .0 .1 .0) (got32 _ (at-read-u32 .result) _ _ (at-read-u32 .ensures) (at-l .given .1)) (c .before .if4 .taken)
 
 sub-if5 : tie.Need-sub-if5
 sub-if5 c =
@@ -69,7 +84,19 @@ returns-6 c =
     let at-l = c .before .before .before .before .l in
     let at-read-u32 = c .before .before .before .before .before .before .read-u32 in
     let at-if4 = c .before .before .if4 in
-    c .refuse6 .ensures ∙ other-length (at-args .d .now) (at-if1 .left) (at-if2 .left) _ _ _ (at-read-message .ensures) (not-false _ (at-if3 .left)) (at-l .given .0 .0) (at-l .given .0 .1 .0) (got32 _ (at-read-u32 .result) _ _ (at-read-u32 .ensures) (at-l .given .1)) (at-if4 .left) (c .before .if5 .taken)
+    c .refuse6 .ensures ∙ other-length (at-args .d .now) (at-if1 .left) (at-if2 .left) _ _ _ (said says-message message message-laws (tail 1 (at-args .d .now)) (at-read-message .result) (at-read-message .ensures)) (not-false _ (at-if3 .left)) (at-l .given .0 .0) (at-l .given .0 .1 .0) (got32 _ (at-read-u32 .result) _ _ (at-read-u32 .ensures) (at-l .given .1)) (at-if4 .left) (c .before .if5 .taken)
+
+add-t11 : tie.Need-add-t11
+add-t11 c =
+    let at-args = c .before .before .before .before .before .before .before .before .before .before .before .before .before .before .before .before .args in
+    let at-if1 = c .before .before .before .before .before .before .before .before .before .before .before .before .before .before .if1 in
+    let at-if2 = c .before .before .before .before .before .before .before .before .before .before .before .before .if2 in
+    let at-read-message = c .before .before .before .before .before .before .before .before .before .before .read-message in
+    let at-if3 = c .before .before .before .before .before .before .before .before .if3 in
+    let at-l = c .before .before .before .before .l in
+    let at-read-u32 = c .before .before .before .before .before .before .read-u32 in
+    let at-good = c .before .before .before .before .before .before .before .before .before .before .before .before .before .before .before .before .good in
+    omega (arith, whole-room (at-args .d .now) (at-if1 .left) (at-if2 .left) _ _ _ (said says-message message message-laws (tail 1 (at-args .d .now)) (at-read-message .result) (at-read-message .ensures)) (not-false _ (at-if3 .left)) (at-l .given .0 .0) (at-l .given .0 .1 .0) (got32 _ (at-read-u32 .result) _ _ (at-read-u32 .ensures) (at-l .given .1)), at-good .0)
 
 add-t19 : tie.Need-add-t19
 add-t19 c =
@@ -81,7 +108,7 @@ add-t19 c =
     let at-l = c .before .before .before .before .l in
     let at-read-u32 = c .before .before .before .before .before .before .read-u32 in
     let at-good = c .before .before .before .before .before .before .before .before .before .before .before .before .before .before .before .before .good in
-    omega (arith, whole-room (at-args .d .now) (at-if1 .left) (at-if2 .left) _ _ _ (at-read-message .ensures) (not-false _ (at-if3 .left)) (at-l .given .0 .0) (at-l .given .0 .1 .0) (got32 _ (at-read-u32 .result) _ _ (at-read-u32 .ensures) (at-l .given .1)), at-good .0)
+    omega (arith, whole-room (at-args .d .now) (at-if1 .left) (at-if2 .left) _ _ _ (said says-message message message-laws (tail 1 (at-args .d .now)) (at-read-message .result) (at-read-message .ensures)) (not-false _ (at-if3 .left)) (at-l .given .0 .0) (at-l .given .0 .1 .0) (got32 _ (at-read-u32 .result) _ _ (at-read-u32 .ensures) (at-l .given .1)), at-good .0)
 
 returns-7 : tie.Need-returns-7
 returns-7 c =
@@ -93,7 +120,7 @@ returns-7 c =
     let at-l = c .before .before .before .before .l in
     let at-read-u32 = c .before .before .before .before .before .before .read-u32 in
     let at-if4 = c .before .before .if4 in
-    read-whole (at-args .d .now) (at-if1 .left) (at-if2 .left) _ _ _ (at-read-message .ensures) (not-false _ (at-if3 .left)) (at-l .given .0 .0) (at-l .given .0 .1 .0) (got32 _ (at-read-u32 .result) _ _ (at-read-u32 .ensures) (at-l .given .1)) (at-if4 .left) (c .before .if5 .left)
+    read-whole (at-args .d .now) (at-if1 .left) (at-if2 .left) _ _ _ (said says-message message message-laws (tail 1 (at-args .d .now)) (at-read-message .result) (at-read-message .ensures)) (not-false _ (at-if3 .left)) (at-l .given .0 .0) (at-l .given .0 .1 .0) (got32 _ (at-read-u32 .result) _ _ (at-read-u32 .ensures) (at-l .given .1)) (at-if4 .left) (c .before .if5 .left)
 
 pub read-datagram-spec : {M : Type 1} → statement M
 read-datagram-spec =
@@ -110,8 +137,8 @@ read-datagram-spec =
     (λ c κs. search needs)
     (λ c κs. search needs)
     returns-3
-    (λ c. search needs)
-    (λ c. search needs)
+    sub-d2
+    part-d2-start
     (λ c. search needs)
     (λ c κs. search needs)
     (λ c. search needs)
@@ -124,6 +151,6 @@ read-datagram-spec =
     sub-if5
     (λ c κs. search needs)
     returns-6
-    (λ c. search needs)
+    add-t11
     add-t19
     returns-7)

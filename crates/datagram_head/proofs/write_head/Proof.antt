@@ -30,7 +30,7 @@ put-head-requires c κs =
     let at-args = c .before .before .before .args in
     let at-start = c .before .before .before in
     let at-is-valid = c .before .before .is-valid in
-    record { fits = omega (arith, head-size (at-args .m) (at-args .len) (typed at-start) (sym (at-is-valid .ensures) ∙ not-false _ (c .before .if1 .left))) }
+    record { room = omega (arith, head-size (at-args .m) (at-args .len) (typed at-start) (sym (at-is-valid .ensures) ∙ not-false _ (c .before .if1 .left))) }
 
 returns-2 : tie.Need-returns-2
 returns-2 c =

@@ -35,7 +35,7 @@ part-copy-at-end : tie.Need-part-copy-at-end
 part-copy-at-end c =
     let at-args = c .before .before .before .before .before .before .before .before .args in
     let at-write-head = c .before .before .before .before .write-head in
-    head-room (head.written (at-args .m) (length (at-args .payload .now))) (replicate 2109 0) _ _ (at-write-head .ensures .0) (at-write-head .ensures .2)
+    head-room (head.validHead (at-args .m) (length (at-args .payload .now))) (replicate 2109 0) _ _ (at-write-head .ensures .0) (at-write-head .ensures .2)
 
 returns-4 : tie.Need-returns-4
 returns-4 c =

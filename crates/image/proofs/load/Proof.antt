@@ -3,7 +3,7 @@ use mathlib.Core.Path.{_∙_}
 use native.Mathlib.Omega.{arith}
 use borrow.Author.Needs.{needs}
 use borrow.Author.Tests.{not-true, not-false}
-use Rattle.image.proofs.Reading.{rules, no-rules, load-broken, load-bad, load-room, load-breaks, load-end, load-yes}
+use Rattle.image.proofs.Reading.{rules, no-rules, load-broken, load-bad, load-room, load-rules, load-end, load-yes}
 use Rattle.image.proofs.load.Statement.{statement}
 use Rattle.image.proofs.load.Tie as tie
 
@@ -21,62 +21,49 @@ returns-2 c =
     let at-read-rows = c .before .before .before .read-rows in
     c .refused2 .ensures ∙ load-bad (at-args .t) (at-args .image .now) (rules (at-args .t) _ (at-open-rows .ensures) _ (at-present .given .1) .keeps) _ (at-read-rows .ensures) (not-true _ (c .before .if1 .taken))
 
-returns-3 : tie.Need-returns-3
-returns-3 c =
-    let at-args = c .before .before .before .before .before .before .before .before .before .before .before .before .before .args in
-    let at-open-rows = c .before .before .before .before .before .before .before .before .before .before .before .open-rows in
-    let at-present = c .before .before .before .before .before .before .before .before .before .present in
-    let at-read-rows = c .before .before .before .before .before .before .before .read-rows in
-    let at-if1 = c .before .before .before .before .before .if1 in
-    let at-open-rows2 = c .before .before .before .open-rows2 in
-    c .refused3 .ensures ∙ load-breaks (at-args .t) (at-args .image .now) (rules (at-args .t) _ (at-open-rows .ensures) _ (at-present .given .1) .keeps) _ (at-read-rows .ensures) (not-false _ (at-if1 .left)) (no-rules _ _ (at-open-rows2 .ensures) _ (c .before .enum-told2 .given .1))
-
 sub-is-end : tie.Need-sub-is-end
 sub-is-end c =
-    let at-args = c .before .before .before .before .before .before .before .before .before .before .before .before .before .args in
-    let at-open-rows = c .before .before .before .before .before .before .before .before .before .before .before .open-rows in
-    let at-present = c .before .before .before .before .before .before .before .before .before .present in
-    let at-read-rows = c .before .before .before .before .before .before .before .read-rows in
-    let at-if1 = c .before .before .before .before .before .if1 in
-    load-room (at-args .t) (at-args .image .now) (rules (at-args .t) _ (at-open-rows .ensures) _ (at-present .given .1) .keeps) _ (at-read-rows .ensures) (not-false _ (at-if1 .left))
+    let at-args = c .before .before .before .before .before .before .before .before .args in
+    let at-open-rows = c .before .before .before .before .before .before .open-rows in
+    let at-present = c .before .before .before .before .present in
+    let at-read-rows = c .before .before .read-rows in
+    load-room (at-args .t) (at-args .image .now) (rules (at-args .t) _ (at-open-rows .ensures) _ (at-present .given .1) .keeps) _ (at-read-rows .ensures) (not-false _ (c .if1 .left))
 
 part-is-end-start : tie.Need-part-is-end-start
 part-is-end-start c =
-    let at-args = c .before .before .before .before .before .before .before .before .before .before .before .before .before .args in
-    let at-open-rows = c .before .before .before .before .before .before .before .before .before .before .before .open-rows in
-    let at-present = c .before .before .before .before .before .before .before .before .before .present in
-    let at-read-rows = c .before .before .before .before .before .before .before .read-rows in
-    let at-if1 = c .before .before .before .before .before .if1 in
-    load-room (at-args .t) (at-args .image .now) (rules (at-args .t) _ (at-open-rows .ensures) _ (at-present .given .1) .keeps) _ (at-read-rows .ensures) (not-false _ (at-if1 .left))
+    let at-args = c .before .before .before .before .before .before .before .before .args in
+    let at-open-rows = c .before .before .before .before .before .before .open-rows in
+    let at-present = c .before .before .before .before .present in
+    let at-read-rows = c .before .before .read-rows in
+    load-room (at-args .t) (at-args .image .now) (rules (at-args .t) _ (at-open-rows .ensures) _ (at-present .given .1) .keeps) _ (at-read-rows .ensures) (not-false _ (c .if1 .left))
 
 is-end-requires : tie.Need-is-end-requires
 is-end-requires c κs =
-    let at-open-rows2 = c .before .before .before .before .open-rows2 in
-    let at-rows = c .before .before .rows in
-    omega (arith, rules _ _ (at-open-rows2 .ensures) _ (at-rows .given .1) .few)
+    let at-args = c .before .before .before .before .before .before .before .before .before .args in
+    let at-open-rows = c .before .before .before .before .before .before .before .open-rows in
+    let at-present = c .before .before .before .before .before .present in
+    let at-read-rows = c .before .before .before .read-rows in
+    omega (arith, load-rules (at-args .t) (at-args .image .now) (rules (at-args .t) _ (at-open-rows .ensures) _ (at-present .given .1) .keeps) _ (at-read-rows .ensures) (not-false _ (c .before .if1 .left)) .few)
+
+returns-3 : tie.Need-returns-3
+returns-3 c =
+    let at-args = c .before .before .before .before .before .before .before .before .before .before .before .before .args in
+    let at-open-rows = c .before .before .before .before .before .before .before .before .before .before .open-rows in
+    let at-present = c .before .before .before .before .before .before .before .before .present in
+    let at-read-rows = c .before .before .before .before .before .before .read-rows in
+    let at-if1 = c .before .before .before .before .if1 in
+    let at-is-end = c .before .before .is-end in
+    c .refused3 .ensures ∙ load-end (at-args .t) (at-args .image .now) (rules (at-args .t) _ (at-open-rows .ensures) _ (at-present .given .1) .keeps) _ (at-read-rows .ensures) (not-false _ (at-if1 .left)) _ (at-is-end .ensures) (not-true _ (c .before .if2 .taken))
 
 returns-4 : tie.Need-returns-4
 returns-4 c =
-    let at-args = c .before .before .before .before .before .before .before .before .before .before .before .before .before .before .before .before .before .args in
-    let at-open-rows = c .before .before .before .before .before .before .before .before .before .before .before .before .before .before .before .open-rows in
-    let at-present = c .before .before .before .before .before .before .before .before .before .before .before .before .before .present in
-    let at-read-rows = c .before .before .before .before .before .before .before .before .before .before .before .read-rows in
-    let at-if1 = c .before .before .before .before .before .before .before .before .before .if1 in
-    let at-open-rows2 = c .before .before .before .before .before .before .before .open-rows2 in
-    let at-rows = c .before .before .before .before .before .rows in
+    let at-args = c .before .before .before .before .before .before .before .before .before .before .before .before .args in
+    let at-open-rows = c .before .before .before .before .before .before .before .before .before .before .open-rows in
+    let at-present = c .before .before .before .before .before .before .before .before .present in
+    let at-read-rows = c .before .before .before .before .before .before .read-rows in
+    let at-if1 = c .before .before .before .before .if1 in
     let at-is-end = c .before .before .is-end in
-    c .refused4 .ensures ∙ load-end (at-args .t) (at-args .image .now) (rules (at-args .t) _ (at-open-rows .ensures) _ (at-present .given .1) .keeps) _ (at-read-rows .ensures) (not-false _ (at-if1 .left)) _ (rules _ _ (at-open-rows2 .ensures) _ (at-rows .given .1)) _ (at-is-end .ensures) (not-true _ (c .before .if2 .taken))
-
-returns-5 : tie.Need-returns-5
-returns-5 c =
-    let at-args = c .before .before .before .before .before .before .before .before .before .before .before .before .before .before .before .before .args in
-    let at-open-rows = c .before .before .before .before .before .before .before .before .before .before .before .before .before .before .open-rows in
-    let at-present = c .before .before .before .before .before .before .before .before .before .before .before .before .present in
-    let at-read-rows = c .before .before .before .before .before .before .before .before .before .before .read-rows in
-    let at-if1 = c .before .before .before .before .before .before .before .before .if1 in
-    let at-open-rows2 = c .before .before .before .before .before .before .open-rows2 in
-    let at-rows = c .before .before .before .before .rows in
-    load-yes (at-args .t) (at-args .image .now) (rules (at-args .t) _ (at-open-rows .ensures) _ (at-present .given .1) .keeps) _ (at-read-rows .ensures) (not-false _ (at-if1 .left)) _ (rules _ _ (at-open-rows2 .ensures) _ (at-rows .given .1)) _ (c .before .is-end .ensures) (not-false _ (c .if2 .left))
+    load-yes (at-args .t) (at-args .image .now) (rules (at-args .t) _ (at-open-rows .ensures) _ (at-present .given .1) .keeps) _ (at-read-rows .ensures) (not-false _ (at-if1 .left)) _ (at-is-end .ensures) (not-false _ (c .before .if2 .left))
 
 pub load-spec : {M : Type 1} → statement M
 load-spec =
@@ -90,15 +77,10 @@ load-spec =
     (λ c κs. search needs)
     (λ c κs. search needs)
     returns-2
-    (λ c κs. search needs)
-    (λ c. search needs)
-    (λ c. search needs)
-    (λ c κs. search needs)
-    returns-3
     sub-is-end
     part-is-end-start
     (λ c. search needs)
     is-end-requires
     (λ c κs. search needs)
-    returns-4
-    returns-5)
+    returns-3
+    returns-4)

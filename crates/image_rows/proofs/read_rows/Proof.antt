@@ -6,7 +6,7 @@ use borrow.Author.Needs.{needs}
 use borrow.Author.Tests.{not-true, not-false}
 use lib.ListN.{length}
 use Rattle.image_rows.specs.Steps.{rowsRead}
-use Rattle.image_rows.proofs.Reading.{Walk, walk-start, walk-bad, walk-room, walk-more, walk-end}
+use Rattle.image_rows.proofs.Reading.{Walk, walk-start, walk-bad, walk-room, walk-more, walk-end, rules-broken, rules-kept}
 use Rattle.image_rows.proofs.read_rows.Statement.{statement}
 use Rattle.image_rows.proofs.read_rows.Tie as tie
 
@@ -53,9 +53,19 @@ loop-again c =
 
 returns-2 : tie.Need-returns-2 Inv-loop μ-loop
 returns-2 c =
-    let at-args = c .before .before .before .before .args in
-    let at-loop = c .before .loop in
-    sym (ap rowsRead (walk-end (at-args .d .now) (at-loop .slots) (at-loop .at) (at-loop .i) (at-loop .inv .1) (c .loop-test .left)))
+    let at-loop = c .before .before .before .before .before .before .loop in
+    let at-test = c .before .before .before .test in
+    let at-args = c .before .before .before .before .before .before .before .before .before .args in
+    let at-loop-test = c .before .before .before .before .before .loop-test in
+    c .no-rows2 .ensures ∙ rules-broken (at-loop .slots) (at-loop .at) _ _ (at-test .ensures) (not-true _ (c .before .if2 .taken)) ∙ sym (ap rowsRead (walk-end (at-args .d .now) (at-loop .slots) (at-loop .at) (at-loop .i) (at-loop .inv .1) (at-loop-test .left)))
+
+returns-3 : tie.Need-returns-3 Inv-loop μ-loop
+returns-3 c =
+    let at-loop = c .before .before .before .before .before .loop in
+    let at-test = c .before .before .test in
+    let at-args = c .before .before .before .before .before .before .before .before .args in
+    let at-loop-test = c .before .before .before .before .loop-test in
+    rules-kept (at-loop .slots) (at-loop .at) _ _ (at-test .ensures) (not-false _ (c .if2 .left)) ∙ sym (ap rowsRead (walk-end (at-args .d .now) (at-loop .slots) (at-loop .at) (at-loop .i) (at-loop .inv .1) (at-loop-test .left)))
 
 pub read-rows-spec : {M : Type 1} → statement M
 read-rows-spec =
@@ -78,4 +88,8 @@ read-rows-spec =
     (λ c. search needs)
     (λ c. search needs)
     loop-again
-    returns-2)
+    (λ c κs. search needs)
+    (λ c κs. search needs)
+    (λ c κs. search needs)
+    returns-2
+    returns-3)

@@ -1,8 +1,7 @@
 -- The lowest number that refuses the line, or the line.
-use mathlib.Core.Path.{sym, _∙_}
 use borrow.Author.Needs.{needs}
 use borrow.Author.Tests.{not-true, not-false}
-use Rattle.line.proofs.Refusals.{line-head, line-values, line-envelope, line-chk, line-deflated, line-long, line-read}
+use Rattle.line.proofs.Refusals.{line-head, line-values, line-refused, line-read}
 use Rattle.line.proofs.read_line.Statement.{statement}
 use Rattle.line.proofs.read_line.Tie as tie
 
@@ -30,63 +29,22 @@ returns-3 c =
     let at-read-values = c .before .before .before .before .before .before .before .before .read-values in
     let at-if2 = c .before .before .before .before .before .before .if2 in
     let at-is-valid = c .before .before .before .before .is-valid in
-    line-envelope (at-args .s .now) (at-read-head .result) (at-read-head .ensures) (not-false _ (at-if1 .left)) (at-rest .result .now) (at-rest .ensures) (at-read-values .result) (at-read-values .ensures) (not-false _ (at-if2 .left)) (at-is-valid .result) (at-is-valid .ensures) (not-true _ (c .before .if3 .taken)) (c .refuse3 .result) (c .refuse3 .ensures)
+    let at-is-right = c .before .before .before .is-right in
+    let at-refuses-reading = c .before .before .refuses-reading in
+    line-refused (at-args .s .now) (at-read-head .result) (at-read-head .ensures) (not-false _ (at-if1 .left)) (at-rest .result .now) (at-rest .ensures) (at-read-values .result) (at-read-values .ensures) (not-false _ (at-if2 .left)) (at-is-valid .result) (at-is-valid .ensures) (at-is-right .result) (at-is-right .ensures) (at-refuses-reading .result) (at-refuses-reading .ensures) (c .before .if3 .taken) (c .refuse3 .result) (c .refuse3 .ensures)
 
 returns-4 : tie.Need-returns-4
 returns-4 c =
-    let at-args = c .before .before .before .before .before .before .before .before .before .before .before .before .before .before .before .args in
-    let at-read-head = c .before .before .before .before .before .before .before .before .before .before .before .before .before .read-head in
-    let at-if1 = c .before .before .before .before .before .before .before .before .before .before .before .if1 in
-    let at-rest = c .before .before .before .before .before .before .before .before .before .before .rest in
-    let at-read-values = c .before .before .before .before .before .before .before .before .before .read-values in
-    let at-if2 = c .before .before .before .before .before .before .before .if2 in
-    let at-if3 = c .before .before .if3 in
-    let at-is-valid = c .before .before .before .before .before .is-valid in
-    let at-is-right = c .before .before .before .before .is-right in
-    line-chk (at-args .s .now) (at-read-head .result) (at-read-head .ensures) (not-false _ (at-if1 .left)) (at-rest .result .now) (at-rest .ensures) (at-read-values .result) (at-read-values .ensures) (not-false _ (at-if2 .left)) (sym (not-false _ (at-if3 .left)) ∙ at-is-valid .ensures) (sym (not-true _ (c .before .if4 .taken)) ∙ at-is-right .ensures) (c .refuse4 .result) (c .refuse4 .ensures)
-
-returns-5 : tie.Need-returns-5
-returns-5 c =
-    let at-args = c .before .before .before .before .before .before .before .before .before .before .before .before .before .before .before .before .args in
-    let at-read-head = c .before .before .before .before .before .before .before .before .before .before .before .before .before .before .read-head in
-    let at-if1 = c .before .before .before .before .before .before .before .before .before .before .before .before .if1 in
-    let at-rest = c .before .before .before .before .before .before .before .before .before .before .before .rest in
-    let at-read-values = c .before .before .before .before .before .before .before .before .before .before .read-values in
-    let at-if2 = c .before .before .before .before .before .before .before .before .if2 in
-    let at-if3 = c .before .before .before .if3 in
-    let at-is-valid = c .before .before .before .before .before .before .is-valid in
-    let at-if4 = c .before .before .if4 in
-    let at-is-right = c .before .before .before .before .before .is-right in
-    line-deflated (at-args .s .now) (at-read-head .result) (at-read-head .ensures) (not-false _ (at-if1 .left)) (at-rest .result .now) (at-rest .ensures) (at-read-values .result) (at-read-values .ensures) (not-false _ (at-if2 .left)) (sym (not-false _ (at-if3 .left)) ∙ at-is-valid .ensures) (sym (not-false _ (at-if4 .left)) ∙ at-is-right .ensures) (c .before .if5 .taken) (c .refuse5 .result) (c .refuse5 .ensures)
-
-returns-6 : tie.Need-returns-6
-returns-6 c =
-    let at-args = c .before .before .before .before .before .before .before .before .before .before .before .before .before .before .before .before .before .args in
-    let at-read-head = c .before .before .before .before .before .before .before .before .before .before .before .before .before .before .before .read-head in
-    let at-if1 = c .before .before .before .before .before .before .before .before .before .before .before .before .before .if1 in
-    let at-rest = c .before .before .before .before .before .before .before .before .before .before .before .before .rest in
-    let at-read-values = c .before .before .before .before .before .before .before .before .before .before .before .read-values in
-    let at-if2 = c .before .before .before .before .before .before .before .before .before .if2 in
-    let at-if3 = c .before .before .before .before .if3 in
-    let at-is-valid = c .before .before .before .before .before .before .before .is-valid in
-    let at-if4 = c .before .before .before .if4 in
-    let at-is-right = c .before .before .before .before .before .before .is-right in
-    let at-if5 = c .before .before .if5 in
-    line-long (at-args .s .now) (at-read-head .result) (at-read-head .ensures) (not-false _ (at-if1 .left)) (at-rest .result .now) (at-rest .ensures) (at-read-values .result) (at-read-values .ensures) (not-false _ (at-if2 .left)) (sym (not-false _ (at-if3 .left)) ∙ at-is-valid .ensures) (sym (not-false _ (at-if4 .left)) ∙ at-is-right .ensures) (at-if5 .left) (c .before .if6 .taken) (c .refuse6 .result) (c .refuse6 .ensures)
-
-returns-7 : tie.Need-returns-7
-returns-7 c =
-    let at-args = c .before .before .before .before .before .before .before .before .before .before .before .before .before .before .before .before .args in
-    let at-read-head = c .before .before .before .before .before .before .before .before .before .before .before .before .before .before .read-head in
-    let at-if1 = c .before .before .before .before .before .before .before .before .before .before .before .before .if1 in
-    let at-rest = c .before .before .before .before .before .before .before .before .before .before .before .rest in
-    let at-read-values = c .before .before .before .before .before .before .before .before .before .before .read-values in
-    let at-if2 = c .before .before .before .before .before .before .before .before .if2 in
-    let at-if3 = c .before .before .before .if3 in
-    let at-is-valid = c .before .before .before .before .before .before .is-valid in
-    let at-if4 = c .before .before .if4 in
-    let at-is-right = c .before .before .before .before .before .is-right in
-    line-read (at-args .s .now) (at-read-head .result) (at-read-head .ensures) (not-false _ (at-if1 .left)) (at-rest .result .now) (at-rest .ensures) (at-read-values .result) (at-read-values .ensures) (not-false _ (at-if2 .left)) (sym (not-false _ (at-if3 .left)) ∙ at-is-valid .ensures) (sym (not-false _ (at-if4 .left)) ∙ at-is-right .ensures) (c .before .if5 .left) (c .if6 .left)
+    let at-args = c .before .before .before .before .before .before .before .before .before .before .before .before .before .args in
+    let at-read-head = c .before .before .before .before .before .before .before .before .before .before .before .read-head in
+    let at-if1 = c .before .before .before .before .before .before .before .before .before .if1 in
+    let at-rest = c .before .before .before .before .before .before .before .before .rest in
+    let at-read-values = c .before .before .before .before .before .before .before .read-values in
+    let at-if2 = c .before .before .before .before .before .if2 in
+    let at-is-valid = c .before .before .before .is-valid in
+    let at-is-right = c .before .before .is-right in
+    let at-refuses-reading = c .before .refuses-reading in
+    line-read (at-args .s .now) (at-read-head .result) (at-read-head .ensures) (not-false _ (at-if1 .left)) (at-rest .result .now) (at-rest .ensures) (at-read-values .result) (at-read-values .ensures) (not-false _ (at-if2 .left)) (at-is-valid .result) (at-is-valid .ensures) (at-is-right .result) (at-is-right .ensures) (at-refuses-reading .result) (at-refuses-reading .ensures) (c .if3 .left)
 
 pub read-line-spec : {M : Type 1} → statement M
 read-line-spec =
@@ -101,13 +59,7 @@ read-line-spec =
     returns-2
     (λ c κs. search needs)
     (λ c κs. search needs)
-    (λ c. search needs)
+    (λ c κs. search needs)
     (λ c κs. search needs)
     returns-3
-    (λ c κs. search needs)
-    returns-4
-    (λ c κs. search needs)
-    returns-5
-    (λ c κs. search needs)
-    returns-6
-    returns-7)
+    returns-4)

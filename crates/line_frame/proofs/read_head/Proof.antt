@@ -7,25 +7,25 @@ use Rattle.octets.proofs.Tests.{if-yes, if-no, and-both, and-not-left, and-not-
 use Rattle.tokens.specs.Tokens.{space}
 use Rattle.tokens.specs.Cuts.{before}
 use Rattle.line_values.specs.Values.{masterOf}
-use Rattle.line_frame.specs.Frame.{ihave, isText, headOf}
+use Rattle.line_frame.specs.Frame.{ihave, isText, lineHead}
 use Prim.Native.Nat.{ℕ}
 use mathlib.Core.List.{List}
 use Rattle.line_frame.proofs.read_head.Statement.{statement}
 use Rattle.line_frame.proofs.read_head.Tie as tie
 
 returns : tie.Need-returns
-unfolding headOf
+unfolding lineHead
 returns c = sym (if-no _ _ _ (and-not-left _ _ (sym (c .before .is-text .ensures) ∙ not-true _ (c .if1 .taken))))
 
 returns-2 : tie.Need-returns-2
-unfolding headOf
+unfolding lineHead
 returns-2 c =
     let at-args = c .before .before .before .before .before .before .before .args in
     let at-before-byte = c .before .before .before .before-byte in
     sym (if-no _ _ _ (and-not-right (isText (at-args .s .now)) _ (ap (λ (w : List ℕ). same w ihave) (sym (at-before-byte .ensures)) ∙ sym (c .before .equal .ensures) ∙ not-true _ (c .if2 .taken))))
 
 returns-3 : tie.Need-returns-3
-unfolding headOf
+unfolding lineHead
 returns-3 c =
     let at-after-byte = c .before .before .after-byte in
     let at-is-text = c .before .before .before .before .before .before .before .before .is-text in

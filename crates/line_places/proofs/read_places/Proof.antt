@@ -113,22 +113,22 @@ returns-2 c =
 
 loop-less : tie.Need-loop-less Inv-loop μ-loop
 loop-less c =
-    let at-args = c .before .before .before .before .before .before .before .before .before .before .before .before .before .before .before .before .before .args in
-    let at-loop = c .before .before .before .before .before .before .before .before .before .before .before .before .before .loop in
-    let at-before-byte = c .before .before .before .before .before .before .before .before .before .before .before-byte in
+    let at-args = c .before .before .before .before .before .before .before .before .before .before .before .before .before .before .before .before .before .before .args in
+    let at-loop = c .before .before .before .before .before .before .before .before .before .before .before .before .before .before .loop in
+    let at-before-byte = c .before .before .before .before .before .before .before .before .before .before .before .before-byte in
     omega (arith, word-short (at-args .t .now) (at-loop .at) (search needs) (at-before-byte .result .now) (at-before-byte .ensures))
 
 loop-again : tie.Need-loop-again Inv-loop μ-loop
 loop-again c =
-    let at-args = c .before .before .before .before .before .before .before .before .before .before .before .before .before .before .before .before .before .args in
-    let at-loop = c .before .before .before .before .before .before .before .before .before .before .before .before .before .loop in
-    let at-before-byte = c .before .before .before .before .before .before .before .before .before .before .before-byte in
-    let at-bytes-before = c .before .before .before .before .before .before .before .before .before .bytes-before in
-    let at-may-stand = c .before .before .before .before .before .before .before .may-stand in
-    let at-if1 = c .before .before .before .before .before .before .if1 in
-    let at-reserved-place = c .before .before .before .reserved-place in
-    let at-if2 = c .before .before .if2 in
-    (omega (arith, word-short (at-args .t .now) (at-loop .at) (search needs) (at-before-byte .result .now) (at-before-byte .ensures)), turn-kept (at-args .t .now) (at-loop .slots) (at-loop .headers) (at-loop .at) (at-loop .inv .1) (search needs) (at-before-byte .result .now) (at-before-byte .ensures) (at-bytes-before .result) (at-bytes-before .ensures .0) (at-may-stand .result) (at-may-stand .ensures) (not-false _ (at-if1 .left)) _ refl (at-reserved-place .result) (at-reserved-place .ensures) (at-if2 .taken) (c .if3 .left) _ refl)
+    let at-args = c .before .before .before .before .before .before .before .before .before .before .before .before .before .before .before .before .before .before .args in
+    let at-loop = c .before .before .before .before .before .before .before .before .before .before .before .before .before .before .loop in
+    let at-before-byte = c .before .before .before .before .before .before .before .before .before .before .before .before-byte in
+    let at-bytes-before = c .before .before .before .before .before .before .before .before .before .before .bytes-before in
+    let at-may-stand = c .before .before .before .before .before .before .before .before .may-stand in
+    let at-if1 = c .before .before .before .before .before .before .before .if1 in
+    let at-reserved-place = c .before .before .before .before .reserved-place in
+    let at-if2 = c .before .before .before .if2 in
+    (omega (arith, word-short (at-args .t .now) (at-loop .at) (search needs) (at-before-byte .result .now) (at-before-byte .ensures)), turn-kept (at-args .t .now) (at-loop .slots) (at-loop .headers) (at-loop .at) (at-loop .inv .1) (search needs) (at-before-byte .result .now) (at-before-byte .ensures) (at-bytes-before .result) (at-bytes-before .ensures .0) (at-may-stand .result) (at-may-stand .ensures) (not-false _ (at-if1 .left)) _ refl (at-reserved-place .result) (at-reserved-place .ensures) (at-if2 .taken) (c .before .if3 .left) _ refl (c .place-at .result) (c .place-at .ensures))
 
 returns-3 : tie.Need-returns-3 Inv-loop μ-loop
 returns-3 c =
@@ -140,11 +140,11 @@ returns-3 c =
     let at-if1 = c .before .before .before .before .before .before .before .if1 in
     let at-reserved-place = c .before .before .before .before .reserved-place in
     let at-if2 = c .before .before .before .if2 in
-    let at-takes = c .before .before .takes in
-    turn-unfit (at-args .t .now) (at-loop .slots) (at-loop .headers) (at-loop .at) (at-loop .inv .1) (search needs) (at-before-byte .result .now) (at-before-byte .ensures) (at-bytes-before .result) (at-bytes-before .ensures .0) (at-may-stand .result) (at-may-stand .ensures) (not-false _ (at-if1 .left)) _ refl (at-reserved-place .result) (at-reserved-place .ensures) (at-if2 .left) _ refl (at-takes .result) (at-takes .ensures) (not-true _ (c .before .if4 .taken)) (c .malformed3 .result) (c .malformed3 .ensures)
+    let at-header-fits = c .before .before .header-fits in
+    turn-unfit (at-args .t .now) (at-loop .slots) (at-loop .headers) (at-loop .at) (at-loop .inv .1) (search needs) (at-before-byte .result .now) (at-before-byte .ensures) (at-bytes-before .result) (at-bytes-before .ensures .0) (at-may-stand .result) (at-may-stand .ensures) (not-false _ (at-if1 .left)) _ refl (at-reserved-place .result) (at-reserved-place .ensures) (at-if2 .left) _ refl (at-header-fits .result) (at-header-fits .ensures) (not-true _ (c .before .if4 .taken)) (c .malformed3 .result) (c .malformed3 .ensures)
 
-mul-x : tie.Need-mul-x Inv-loop μ-loop
-mul-x c =
+mul-t15 : tie.Need-mul-t15 Inv-loop μ-loop
+mul-t15 c =
     let at-args = c .before .before .before .before .before .before .before .before .before .before .before .before .before .before .before .before .before .before .before .args in
     let at-loop = c .before .before .before .before .before .before .before .before .before .before .before .before .before .before .before .loop in
     let at-before-byte = c .before .before .before .before .before .before .before .before .before .before .before .before .before-byte in
@@ -153,12 +153,12 @@ mul-x c =
     let at-if1 = c .before .before .before .before .before .before .before .before .if1 in
     let at-reserved-place = c .before .before .before .before .before .reserved-place in
     let at-if2 = c .before .before .before .before .if2 in
-    let at-takes = c .before .before .before .takes in
+    let at-header-fits = c .before .before .before .header-fits in
     let at-if4 = c .before .before .if4 in
-    omega (arith, turn-room (at-args .t .now) (at-loop .slots) (at-loop .headers) (at-loop .at) (at-loop .inv .1) (search needs) (at-before-byte .result .now) (at-before-byte .ensures) (at-bytes-before .result) (at-bytes-before .ensures .0) (at-may-stand .result) (at-may-stand .ensures) (not-false _ (at-if1 .left)) _ refl (at-reserved-place .result) (at-reserved-place .ensures) (at-if2 .left) _ refl (at-takes .result) (at-takes .ensures) (not-false _ (at-if4 .left)))
+    omega (arith, turn-room (at-args .t .now) (at-loop .slots) (at-loop .headers) (at-loop .at) (at-loop .inv .1) (search needs) (at-before-byte .result .now) (at-before-byte .ensures) (at-bytes-before .result) (at-bytes-before .ensures .0) (at-may-stand .result) (at-may-stand .ensures) (not-false _ (at-if1 .left)) _ refl (at-reserved-place .result) (at-reserved-place .ensures) (at-if2 .left) _ refl (at-header-fits .result) (at-header-fits .ensures) (not-false _ (at-if4 .left)))
 
-element-set-from-x : tie.Need-element-set-from-x Inv-loop μ-loop
-element-set-from-x c =
+element-set-from-headers : tie.Need-element-set-from-headers Inv-loop μ-loop
+element-set-from-headers c =
     let at-args = c .before .before .before .before .before .before .before .before .before .before .before .before .before .before .before .before .before .before .before .args in
     let at-loop = c .before .before .before .before .before .before .before .before .before .before .before .before .before .before .before .loop in
     let at-before-byte = c .before .before .before .before .before .before .before .before .before .before .before .before .before-byte in
@@ -167,9 +167,9 @@ element-set-from-x c =
     let at-if1 = c .before .before .before .before .before .before .before .before .if1 in
     let at-reserved-place = c .before .before .before .before .before .reserved-place in
     let at-if2 = c .before .before .before .before .if2 in
-    let at-takes = c .before .before .before .takes in
+    let at-header-fits = c .before .before .before .header-fits in
     let at-if4 = c .before .before .if4 in
-    omega (arith, turn-room (at-args .t .now) (at-loop .slots) (at-loop .headers) (at-loop .at) (at-loop .inv .1) (search needs) (at-before-byte .result .now) (at-before-byte .ensures) (at-bytes-before .result) (at-bytes-before .ensures .0) (at-may-stand .result) (at-may-stand .ensures) (not-false _ (at-if1 .left)) _ refl (at-reserved-place .result) (at-reserved-place .ensures) (at-if2 .left) _ refl (at-takes .result) (at-takes .ensures) (not-false _ (at-if4 .left)))
+    omega (arith, turn-room (at-args .t .now) (at-loop .slots) (at-loop .headers) (at-loop .at) (at-loop .inv .1) (search needs) (at-before-byte .result .now) (at-before-byte .ensures) (at-bytes-before .result) (at-bytes-before .ensures .0) (at-may-stand .result) (at-may-stand .ensures) (not-false _ (at-if1 .left)) _ refl (at-reserved-place .result) (at-reserved-place .ensures) (at-if2 .left) _ refl (at-header-fits .result) (at-header-fits .ensures) (not-false _ (at-if4 .left)))
 
 add-headers : tie.Need-add-headers Inv-loop μ-loop
 add-headers c =
@@ -181,9 +181,9 @@ add-headers c =
     let at-if1 = c .before .before .before .before .before .before .before .before .if1 in
     let at-reserved-place = c .before .before .before .before .before .reserved-place in
     let at-if2 = c .before .before .before .before .if2 in
-    let at-takes = c .before .before .before .takes in
+    let at-header-fits = c .before .before .before .header-fits in
     let at-if4 = c .before .before .if4 in
-    omega (arith, turn-room (at-args .t .now) (at-loop .slots) (at-loop .headers) (at-loop .at) (at-loop .inv .1) (search needs) (at-before-byte .result .now) (at-before-byte .ensures) (at-bytes-before .result) (at-bytes-before .ensures .0) (at-may-stand .result) (at-may-stand .ensures) (not-false _ (at-if1 .left)) _ refl (at-reserved-place .result) (at-reserved-place .ensures) (at-if2 .left) _ refl (at-takes .result) (at-takes .ensures) (not-false _ (at-if4 .left)))
+    omega (arith, turn-room (at-args .t .now) (at-loop .slots) (at-loop .headers) (at-loop .at) (at-loop .inv .1) (search needs) (at-before-byte .result .now) (at-before-byte .ensures) (at-bytes-before .result) (at-bytes-before .ensures .0) (at-may-stand .result) (at-may-stand .ensures) (not-false _ (at-if1 .left)) _ refl (at-reserved-place .result) (at-reserved-place .ensures) (at-if2 .left) _ refl (at-header-fits .result) (at-header-fits .ensures) (not-false _ (at-if4 .left)))
 
 loop-less-2 : tie.Need-loop-less-2 Inv-loop μ-loop
 loop-less-2 c =
@@ -202,9 +202,9 @@ loop-again-2 c =
     let at-if1 = c .before .before .before .before .before .before .before .before .if1 in
     let at-reserved-place = c .before .before .before .before .before .reserved-place in
     let at-if2 = c .before .before .before .before .if2 in
-    let at-takes = c .before .before .before .takes in
+    let at-header-fits = c .before .before .before .header-fits in
     let at-if4 = c .before .before .if4 in
-    (omega (arith, word-short (at-args .t .now) (at-loop .at) (search needs) (at-before-byte .result .now) (at-before-byte .ensures)), turn-header (at-args .t .now) (at-loop .slots) (at-loop .headers) (at-loop .at) (at-loop .inv .1) (search needs) (at-before-byte .result .now) (at-before-byte .ensures) (at-bytes-before .result) (at-bytes-before .ensures .0) (at-may-stand .result) (at-may-stand .ensures) (not-false _ (at-if1 .left)) _ refl (at-reserved-place .result) (at-reserved-place .ensures) (at-if2 .left) _ refl (at-takes .result) (at-takes .ensures) (not-false _ (at-if4 .left)) _ refl (c .header-text .result) (c .header-text .ensures))
+    (omega (arith, word-short (at-args .t .now) (at-loop .at) (search needs) (at-before-byte .result .now) (at-before-byte .ensures)), turn-header (at-args .t .now) (at-loop .slots) (at-loop .headers) (at-loop .at) (at-loop .inv .1) (search needs) (at-before-byte .result .now) (at-before-byte .ensures) (at-bytes-before .result) (at-bytes-before .ensures .0) (at-may-stand .result) (at-may-stand .ensures) (not-false _ (at-if1 .left)) _ refl (at-reserved-place .result) (at-reserved-place .ensures) (at-if2 .left) _ refl (at-header-fits .result) (at-header-fits .ensures) (not-false _ (at-if4 .left)) _ refl (c .header-text .result) (c .header-text .ensures))
 
 returns-4 : tie.Need-returns-4 Inv-loop μ-loop
 returns-4 c =
@@ -246,6 +246,7 @@ read-places-spec =
     (λ c. search needs)
     (λ c κs. search needs)
     returns-2
+    (λ c κs. search needs)
     (λ c. search needs)
     (λ c. search needs)
     loop-less
@@ -257,8 +258,8 @@ read-places-spec =
     (λ c. search needs)
     (λ c. search needs)
     (λ c κs. search needs)
-    mul-x
-    element-set-from-x
+    mul-t15
+    element-set-from-headers
     add-headers
     loop-less-2
     loop-again-2

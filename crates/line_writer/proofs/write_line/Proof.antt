@@ -1,83 +1,78 @@
--- The refusals in their order; then the line and its LF.
-use Prim.Native.Nat.{ℕ}
-use mathlib.Core.Path.{sym, _∙_}
+-- The number that refuses the message, or the line and its LF.
+use mathlib.Core.Path.{sym, ap}
 use native.Mathlib.Omega.{arith}
 use borrow.Author.Needs.{needs}
-use borrow.Author.Tests.{not-true, not-false}
-use lib.ListN.{length-replicate}
-use Rattle.line.specs.Writing.{printOf}
-use Rattle.line_writer.proofs.Whole.{holds-long, holds-short, bad-fields, bad-len, bad-line, bad-payload, bad-room, all-written}
+use lib.ListN.{length}
+use Rattle.octets.proofs.Lists.{length-placed}
+use Rattle.line_writer.proofs.Whole.{line-long, refused, short, room, all-written}
 use Rattle.line_writer.proofs.write_line.Statement.{statement}
 use Rattle.line_writer.proofs.write_line.Tie as tie
 
 returns : tie.Need-returns
 returns c =
-    let at-args = c .before .before .before .before .args in
-    bad-fields (at-args .m) (at-args .out .now) (sym (c .before .is-valid .ensures) ∙ not-true _ (c .if1 .taken))
+    let at-args = c .before .before .before .before .before .before .before .before .before .args in
+    let at-is-valid = c .before .before .before .before .before .before .is-valid in
+    let at-print-body = c .before .before .before .before .before .print-body in
+    let at-add-chk = c .before .before .add-chk in
+    let at-refuses-writing = c .before .refuses-writing in
+    refused (at-args .m) (at-args .out .now) (at-is-valid .result) (at-is-valid .ensures) (at-print-body .result) (at-print-body .ensures) (at-add-chk .ensures) (at-refuses-writing .result) (at-refuses-writing .ensures) (c .if1 .taken)
+
+slice-aggregate-part : tie.Need-slice-aggregate-part
+slice-aggregate-part c =
+    let at-args = c .before .before .before .before .before .before .before .before .before .before .args in
+    let at-is-valid = c .before .before .before .before .before .before .before .is-valid in
+    let at-print-body = c .before .before .before .before .before .before .print-body in
+    let at-add-chk = c .before .before .before .add-chk in
+    let at-refuses-writing = c .before .before .refuses-writing in
+    sym (line-long (at-args .m) (at-args .out .now) (at-is-valid .result) (at-is-valid .ensures) (at-print-body .result) (at-print-body .ensures) (at-add-chk .ensures) (at-refuses-writing .result) (at-refuses-writing .ensures))
+
+slice-write-out : tie.Need-slice-write-out
+slice-write-out c =
+    let at-args = c .before .before .before .before .before .before .before .before .before .before .before .before .before .before .before .args in
+    let at-is-valid = c .before .before .before .before .before .before .before .before .before .before .before .before .is-valid in
+    let at-print-body = c .before .before .before .before .before .before .before .before .before .before .before .print-body in
+    let at-add-chk = c .before .before .before .before .before .before .before .before .add-chk in
+    let at-refuses-writing = c .before .before .before .before .before .before .before .refuses-writing in
+    let at-if1 = c .before .before .before .before .before .before .if1 in
+    let at-part = c .before .before .before .before .part in
+    let at-copy-at = c .before .before .copy-at in
+    omega (arith, room (at-args .m) (at-args .out .now) (at-is-valid .result) (at-is-valid .ensures) (at-print-body .result) (at-print-body .ensures) (at-add-chk .ensures) (at-refuses-writing .result) (at-refuses-writing .ensures) (at-if1 .left), length-placed (at-part .result .now) 0 (at-args .out .now), ap length (at-copy-at .ensures .1))
+
+add-t10 : tie.Need-add-t10
+add-t10 c =
+    let at-args = c .before .before .before .before .before .before .before .before .before .before .before .before .before .before .before .args in
+    let at-is-valid = c .before .before .before .before .before .before .before .before .before .before .before .before .is-valid in
+    let at-print-body = c .before .before .before .before .before .before .before .before .before .before .before .print-body in
+    let at-add-chk = c .before .before .before .before .before .before .before .before .add-chk in
+    let at-refuses-writing = c .before .before .before .before .before .before .before .refuses-writing in
+    let at-if1 = c .before .before .before .before .before .before .if1 in
+    omega (arith, short (at-args .m) (at-args .out .now) (at-is-valid .result) (at-is-valid .ensures) (at-print-body .result) (at-print-body .ensures) (at-add-chk .ensures) (at-refuses-writing .result) (at-refuses-writing .ensures) (at-if1 .left))
 
 returns-2 : tie.Need-returns-2
 returns-2 c =
-    let at-args = c .before .before .before .before .before .before .args in
-    bad-len (at-args .m) (at-args .out .now) (c .if2 .taken)
-
-returns-3 : tie.Need-returns-3
-returns-3 c =
-    let at-args = c .before .before .before .before .before .before .before .before .before .args in
-    let at-print = c .before .print in
-    bad-line (at-args .m) (at-args .out .now) (holds-long (printOf (at-args .m)) _ (at-print .result) _ (length-replicate {A = ℕ} 512 0) (at-print .ensures) (c .if3 .taken))
-
-returns-4 : tie.Need-returns-4
-returns-4 c =
-    let at-args = c .before .before .before .before .before .before .before .before .before .before .before .args in
-    let at-print = c .before .before .before .print in
-    let at-if3 = c .before .before .if3 in
-    let at-is-valid = c .before .before .before .before .before .before .before .before .is-valid in
-    let at-if1 = c .before .before .before .before .before .before .before .if1 in
-    let at-if2 = c .before .before .before .before .before .if2 in
-    let k = holds-short (printOf (at-args .m)) _ (at-print .result) _ (length-replicate {A = ℕ} 512 0) (at-print .ensures) (at-if3 .left) in
-    bad-payload (at-args .m) (at-args .out .now) (sym (at-is-valid .ensures) ∙ not-false _ (at-if1 .left)) (at-if2 .left) (k .short) (c .if4 .taken)
-
-returns-5 : tie.Need-returns-5
-returns-5 c =
-    let at-args = c .before .before .before .before .before .before .before .before .before .before .before .before .args in
-    let at-print = c .before .before .before .before .print in
-    let at-if3 = c .before .before .before .if3 in
-    let at-is-valid = c .before .before .before .before .before .before .before .before .before .is-valid in
-    let at-if1 = c .before .before .before .before .before .before .before .before .if1 in
-    let at-if2 = c .before .before .before .before .before .before .if2 in
-    let k = holds-short (printOf (at-args .m)) _ (at-print .result) _ (length-replicate {A = ℕ} 512 0) (at-print .ensures) (at-if3 .left) in
-    bad-room (at-args .m) (at-args .out .now) (sym (at-is-valid .ensures) ∙ not-false _ (at-if1 .left)) (at-if2 .left) (k .short) (c .before .if4 .left) (omega (arith, k .len-is))
-
-returns-6 : tie.Need-returns-6
-returns-6 c =
-    let at-args = c .before .before .before .before .before .before .before .before .before .before .before .before .before .before .before .before .before .before .args in
-    let at-print = c .before .before .before .before .before .before .before .before .before .before .print in
-    let at-if3 = c .before .before .before .before .before .before .before .before .before .if3 in
-    let at-is-valid = c .before .before .before .before .before .before .before .before .before .before .before .before .before .before .before .is-valid in
-    let at-if1 = c .before .before .before .before .before .before .before .before .before .before .before .before .before .before .if1 in
-    let at-if2 = c .before .before .before .before .before .before .before .before .before .before .before .before .if2 in
-    let at-if4 = c .before .before .before .before .before .before .before .if4 in
+    let at-args = c .before .before .before .before .before .before .before .before .before .before .before .before .before .before .before .args in
+    let at-is-valid = c .before .before .before .before .before .before .before .before .before .before .before .before .is-valid in
+    let at-print-body = c .before .before .before .before .before .before .before .before .before .before .before .print-body in
+    let at-add-chk = c .before .before .before .before .before .before .before .before .add-chk in
+    let at-refuses-writing = c .before .before .before .before .before .before .before .refuses-writing in
+    let at-if1 = c .before .before .before .before .before .before .if1 in
+    let at-part = c .before .before .before .before .part in
     let at-copy-at = c .before .before .copy-at in
-    let k = holds-short (printOf (at-args .m)) _ (at-print .result) _ (length-replicate {A = ℕ} 512 0) (at-print .ensures) (at-if3 .left) in
-    all-written (at-args .m) (at-args .out .now) (sym (at-is-valid .ensures) ∙ not-false _ (at-if1 .left)) (at-if2 .left) (k .short) (at-if4 .left) (at-print .result) _ _ (omega (arith, k .len-is)) (k .len-is) (k .text-is) (at-copy-at .ensures .1)
+    all-written (at-args .m) (at-args .out .now) (at-is-valid .result) (at-is-valid .ensures) (at-print-body .result) (at-print-body .ensures) (at-add-chk .ensures) (at-refuses-writing .result) (at-refuses-writing .ensures) (at-if1 .left) _ _ (at-part .ensures) (at-copy-at .ensures .1)
 
 pub write-line-spec : {M : Type 1} → statement M
 write-line-spec =
     tie.close
     (tie.spec
     (λ c κs. search needs)
+    (λ c κs. search needs)
+    (λ c κs. search needs)
+    (λ c κs. search needs)
     returns
-    returns-2
+    slice-aggregate-part
     (λ c κs. search needs)
-    returns-3
-    (λ c. search needs)
-    returns-4
-    returns-5
-    (λ c. search needs)
-    (λ c. search needs)
-    (λ c. search needs)
     (λ c κs. search needs)
+    slice-write-out
+    add-t10
     (λ c. search needs)
-    (λ c. search needs)
-    (λ c. search needs)
-    returns-6)
+    returns-2)

@@ -1,6 +1,6 @@
 -- The line is the one that `data ` and the id make.
 use borrow.Author.Needs.{needs}
-use Rattle.phrases.proofs.Joins.{data-is}
+use Rattle.phrases.proofs.Verbs.{data-is}
 use Rattle.phrases.proofs.is_data.Statement.{statement}
 use Rattle.phrases.proofs.is_data.Tie as tie
 

@@ -1,9 +1,8 @@
 -- A closed session.
 use borrow.Author.Needs.{needs}
-use Rattle.talk.specs.Sessions.{noTerms, closed}
-use Rattle.tokens.specs.Cuts.{before}
-use Rattle.talk.proofs.Turns.{entered-is}
 use Rattle.sha1.specs.Machine.{fresh}
+use Rattle.talk.specs.Sessions.{noTerms, closed}
+use Rattle.talk.proofs.Turns.{entered-is}
 use Rattle.talk.proofs.closed.Statement.{statement}
 use Rattle.talk.proofs.closed.Tie as tie
 

@@ -2,7 +2,6 @@
 use mathlib.Core.Path.{sym, _∙_}
 use borrow.Author.Needs.{needs}
 use borrow.Author.Tests.{not-true, not-false}
-use Rattle.tokens.specs.Cuts.{before}
 use Rattle.talk.proofs.Turns.{terms-id, terms-rest}
 use Rattle.talk.proofs.keep_rules.Statement.{statement}
 use Rattle.talk.proofs.keep_rules.Tie as tie

@@ -1,9 +1,8 @@
 -- A session between messages.
 use borrow.Author.Needs.{needs}
-use Rattle.talk.specs.Sessions.{noTerms}
-use Rattle.tokens.specs.Cuts.{before}
-use Rattle.talk.proofs.Turns.{entered-is}
 use Rattle.sha1.specs.Machine.{fresh}
+use Rattle.talk.specs.Sessions.{noTerms}
+use Rattle.talk.proofs.Turns.{entered-is}
 use Rattle.talk.proofs.listening.Statement.{statement}
 use Rattle.talk.proofs.listening.Tie as tie
 

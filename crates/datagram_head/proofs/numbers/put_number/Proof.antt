@@ -13,7 +13,7 @@ add-result : tie.Need-add-result
 add-result c =
     let at-args = c .before .before .before .before .before .args in
     let at-pre = c .before .before .before .before .before .pre in
-    let n : length (num (at-args .width) .print (at-args .v)) ≡ at-args .width = length-bytes (at-args .width) (at-args .v) in omega (arith, at-pre .fits)
+    let n : length (num (at-args .width) .print (at-args .v)) ≡ at-args .width = length-bytes (at-args .width) (at-args .v) in omega (arith, at-pre .room)
 
 returns : tie.Need-returns
 returns c =

@@ -20,7 +20,7 @@ add-result c =
     let at-part = c .before .before .before .before .before .before .before .before .part in
     let at-pre = c .before .before .before .before .before .before .before .before .before .before .before .pre in
     let h = next-room _ (at-put-number .ensures) (room-as (ap (textBytes (at-args .width)) (sym (at-part .ensures))) at-pre) in
-    omega (arith, h .fits)
+    omega (arith, h .room)
 
 returns : tie.Need-returns
 returns c =

@@ -22,27 +22,26 @@ returns-2 c =
 returns-3 : tie.Need-returns-3
 unfolding gate
 returns-3 c =
-    let at-keep-rules = c .before .before .before .before .keep-rules in
-    let at-if1 = c .before .before .before .if1 in
-    let at-if2 = c .before .before .if2 in
-    sym (if-no _ _ _ (no-true _ (sym (at-keep-rules .ensures) ∙ not-false _ (at-if1 .left))) ∙ if-no _ _ _ (no-true _ (eq-eqb _ _ (at-if2 .left))) ∙ if-yes _ _ _ (lt-ltb _ _ (c .if3 .taken)))
+    let at-keep-rules = c .before .before .before .keep-rules in
+    let at-if1 = c .before .before .if1 in
+    sym (if-no _ _ _ (no-true _ (sym (at-keep-rules .ensures) ∙ not-false _ (at-if1 .left))) ∙ if-no _ _ _ (no-true _ (eq-eqb _ _ (c .before .if2 .left))) ∙ if-yes _ _ _ (lt-ltb _ _ (c .if3 .taken)))
 
 returns-4 : tie.Need-returns-4
 unfolding gate
 returns-4 c =
-    let at-keep-rules = c .before .before .before .before .before .keep-rules in
-    let at-if1 = c .before .before .before .before .if1 in
-    let at-if2 = c .before .before .before .if2 in
-    let at-args = c .before .before .before .before .before .before .args in
+    let at-keep-rules = c .before .before .before .before .keep-rules in
+    let at-if1 = c .before .before .before .if1 in
+    let at-if2 = c .before .before .if2 in
+    let at-args = c .before .before .before .before .before .args in
     sym (if-no _ _ _ (no-true _ (sym (at-keep-rules .ensures) ∙ not-false _ (at-if1 .left))) ∙ if-no _ _ _ (no-true _ (eq-eqb _ _ (at-if2 .left))) ∙ if-no _ _ _ (le-ltb _ _ (c .before .if3 .left)) ∙ if-yes _ _ _ (no-false (at-args .ranged) (not-true (at-args .ranged) (c .if4 .taken))))
 
 returns-5 : tie.Need-returns-5
 unfolding gate
 returns-5 c =
-    let at-keep-rules = c .before .before .before .before .before .keep-rules in
-    let at-if1 = c .before .before .before .before .if1 in
-    let at-if2 = c .before .before .before .if2 in
-    let at-args = c .before .before .before .before .before .before .args in
+    let at-keep-rules = c .before .before .before .before .keep-rules in
+    let at-if1 = c .before .before .before .if1 in
+    let at-if2 = c .before .before .if2 in
+    let at-args = c .before .before .before .before .before .args in
     sym (if-no _ _ _ (no-true _ (sym (at-keep-rules .ensures) ∙ not-false _ (at-if1 .left))) ∙ if-no _ _ _ (no-true _ (eq-eqb _ _ (at-if2 .left))) ∙ if-no _ _ _ (le-ltb _ _ (c .before .if3 .left)) ∙ if-no _ _ _ (no-true (at-args .ranged) (not-false (at-args .ranged) (c .if4 .left))))
 
 pub gate-spec : {M : Type 1} → statement M

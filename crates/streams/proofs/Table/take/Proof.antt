@@ -1,68 +1,62 @@
--- What stands for the key decides.
-use mathlib.Core.Path.{sym, _∙_}
+-- The target decides: refused, or the row's own call at its place.
+use mathlib.Core.Path.{refl, sym, ap, _∙_}
 use borrow.Author.Needs.{needs}
-use Rattle.streams.proofs.Lookups.{look-is, open-bound, on-row, take-by}
+use Rattle.lookups.specs.Lookup.{knownTarget}
+use Rattle.streams.specs.Calls.{takeBy}
+use Rattle.streams.proofs.Lookups.{look-is, not-known, is-known, known-bound, on-row, take-by}
 use Rattle.streams.proofs.Table.take.Statement.{statement}
 use Rattle.streams.proofs.Table.take.Tie as tie
 
 mul-x : tie.Need-mul-x
 mul-x c =
-    let at-standing = c .before .before .before .standing in
-    let at-args = c .before .before .before .before .before .before .before .before .before .args in
-    let at-name = c .before .before .before .before .before .before .name in
+    let at-args = c .before .before .before .before .before .before .before .before .before .before .args in
+    let at-name = c .before .before .before .before .before .before .before .name in
+    let at-known = c .before .before .before .known in
     let at-test = c .before .before .before .before .test in
-    let b = open-bound _ _ _ (sym (c .before .l2 .given .1) ∙ at-standing .ensures ∙ look-is (at-args .t1) (at-name .result) (at-test .result) (at-test .ensures)) in search needs
+    let b = known-bound (at-args .t1) (at-name .result) _ (sym (c .before .p2 .given .1) ∙ at-known .ensures ∙ ap knownTarget (look-is (at-args .t1) (at-name .result) (at-test .result) (at-test .ensures))) in search needs
 
 element-copy-out-x : tie.Need-element-copy-out-x
 element-copy-out-x c =
-    let at-standing = c .before .before .before .standing in
-    let at-args = c .before .before .before .before .before .before .before .before .before .args in
-    let at-name = c .before .before .before .before .before .before .name in
+    let at-args = c .before .before .before .before .before .before .before .before .before .before .args in
+    let at-name = c .before .before .before .before .before .before .before .name in
+    let at-known = c .before .before .before .known in
     let at-test = c .before .before .before .before .test in
-    let b = open-bound _ _ _ (sym (c .before .l2 .given .1) ∙ at-standing .ensures ∙ look-is (at-args .t1) (at-name .result) (at-test .result) (at-test .ensures)) in search needs
+    let b = known-bound (at-args .t1) (at-name .result) _ (sym (c .before .p2 .given .1) ∙ at-known .ensures ∙ ap knownTarget (look-is (at-args .t1) (at-name .result) (at-test .result) (at-test .ensures))) in search needs
 
 mul-x-2 : tie.Need-mul-x-2
 mul-x-2 c =
-    let at-l2 = c .before .before .before .before .before .l2 in
-    let at-standing = c .before .before .before .before .before .before .before .standing in
-    let at-args = c .before .before .before .before .before .before .before .before .before .before .before .before .before .args in
-    let at-name = c .before .before .before .before .before .before .before .before .before .before .name in
+    let at-args = c .before .before .before .before .before .before .before .before .before .before .before .before .before .before .args in
+    let at-name = c .before .before .before .before .before .before .before .before .before .before .before .name in
+    let at-p2 = c .before .before .before .before .before .p2 in
+    let at-known = c .before .before .before .before .before .before .before .known in
     let at-test = c .before .before .before .before .before .before .before .before .test in
-    let b = open-bound _ _ _ (sym (at-l2 .given .1) ∙ at-standing .ensures ∙ look-is (at-args .t1) (at-name .result) (at-test .result) (at-test .ensures)) in search needs
+    let b = known-bound (at-args .t1) (at-name .result) _ (sym (at-p2 .given .1) ∙ at-known .ensures ∙ ap knownTarget (look-is (at-args .t1) (at-name .result) (at-test .result) (at-test .ensures))) in search needs
 
 element-set-from-x : tie.Need-element-set-from-x
 element-set-from-x c =
-    let at-l2 = c .before .before .before .before .before .l2 in
-    let at-standing = c .before .before .before .before .before .before .before .standing in
-    let at-args = c .before .before .before .before .before .before .before .before .before .before .before .before .before .args in
-    let at-name = c .before .before .before .before .before .before .before .before .before .before .name in
+    let at-args = c .before .before .before .before .before .before .before .before .before .before .before .before .before .before .args in
+    let at-name = c .before .before .before .before .before .before .before .before .before .before .before .name in
+    let at-p2 = c .before .before .before .before .before .p2 in
+    let at-known = c .before .before .before .before .before .before .before .known in
     let at-test = c .before .before .before .before .before .before .before .before .test in
-    let b = open-bound _ _ _ (sym (at-l2 .given .1) ∙ at-standing .ensures ∙ look-is (at-args .t1) (at-name .result) (at-test .result) (at-test .ensures)) in search needs
+    let b = known-bound (at-args .t1) (at-name .result) _ (sym (at-p2 .given .1) ∙ at-known .ensures ∙ ap knownTarget (look-is (at-args .t1) (at-name .result) (at-test .result) (at-test .ensures))) in search needs
 
 returns : tie.Need-returns
 returns c =
-    let at-args = c .before .before .before .before .before .before .before .before .before .args in
-    let at-name = c .before .before .before .before .before .before .name in
-    let at-standing = c .before .before .before .standing in
+    let at-args = c .before .before .before .before .before .before .before .before .before .before .args in
+    let at-name = c .before .before .before .before .before .before .before .name in
+    let at-known = c .before .before .before .known in
     let at-test = c .before .before .before .before .test in
-    take-by (at-args .t1) _ _ (at-name .result) _ (sym (c .before .l .given .1) ∙ at-standing .ensures ∙ look-is (at-args .t1) (at-name .result) (at-test .result) (at-test .ensures)) (at-name .ensures) (at-args .time)
+    not-known (at-args .t1) (at-name .result) (takeBy (at-args .t1) (at-args .time)) (λ n. refl) refl _ (sym (c .before .p .given .1) ∙ at-known .ensures ∙ ap knownTarget (look-is (at-args .t1) (at-name .result) (at-test .result) (at-test .ensures))) ∙ take-by (at-args .t1) _ _ (at-name .result) (at-name .ensures) (at-args .time)
 
 returns-2 : tie.Need-returns-2
 returns-2 c =
-    let at-args = c .before .before .before .before .before .before .before .before .before .before .before .before .before .args in
-    let at-name = c .before .before .before .before .before .before .before .before .before .before .name in
-    let at-l2 = c .before .before .before .before .before .l2 in
-    let at-standing = c .before .before .before .before .before .before .before .standing in
+    let at-args = c .before .before .before .before .before .before .before .before .before .before .before .before .before .before .args in
+    let at-name = c .before .before .before .before .before .before .before .before .before .before .before .name in
+    let at-p2 = c .before .before .before .before .before .p2 in
+    let at-known = c .before .before .before .before .before .before .before .known in
     let at-test = c .before .before .before .before .before .before .before .before .test in
-    on-row (at-args .t1) _ _ _ _ (c .before .take .ensures) ∙ take-by (at-args .t1) _ _ (at-name .result) _ (sym (at-l2 .given .1) ∙ at-standing .ensures ∙ look-is (at-args .t1) (at-name .result) (at-test .result) (at-test .ensures)) (at-name .ensures) (at-args .time)
-
-returns-3 : tie.Need-returns-3
-returns-3 c =
-    let at-args = c .before .before .before .before .before .before .before .before .args in
-    let at-name = c .before .before .before .before .before .name in
-    let at-standing = c .before .before .standing in
-    let at-test = c .before .before .before .test in
-    take-by (at-args .t1) _ _ (at-name .result) _ (sym (c .enum-told .given .1) ∙ at-standing .ensures ∙ look-is (at-args .t1) (at-name .result) (at-test .result) (at-test .ensures)) (at-name .ensures) (at-args .time)
+    on-row (at-args .t1) _ _ _ _ (c .before .take .ensures) ∙ is-known (at-args .t1) (at-name .result) (takeBy (at-args .t1) (at-args .time)) (λ n. refl) refl _ (sym (at-p2 .given .1) ∙ at-known .ensures ∙ ap knownTarget (look-is (at-args .t1) (at-name .result) (at-test .result) (at-test .ensures))) ∙ take-by (at-args .t1) _ _ (at-name .result) (at-name .ensures) (at-args .time)
 
 pub take-spec : {M : Type 1} → statement M
 take-spec =
@@ -78,7 +72,5 @@ take-spec =
     (λ c κs. search needs)
     mul-x-2
     element-set-from-x
-    (λ c. search needs)
     returns
-    returns-2
-    returns-3)
+    returns-2)

@@ -1,0 +1,2 @@
+-- What the reader of a datagram's fields answers.
+pub mod Found

@@ -1,0 +1,2 @@
+-- What stands for a key: one outcome.
+pub mod Unique

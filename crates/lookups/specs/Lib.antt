@@ -1,0 +1,2 @@
+-- Document 01, "Streams": what stands for a key.
+pub mod Lookup

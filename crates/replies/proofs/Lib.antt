@@ -1,0 +1,4 @@
+-- Facts about the replies.
+pub mod Tokens
+pub mod Joins
+pub mod Unique

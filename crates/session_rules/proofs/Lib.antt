@@ -1,0 +1,3 @@
+-- Facts about the rules of a session.
+pub mod Tests
+pub mod Unique

@@ -1,0 +1,71 @@
+-- The marks of the slots: what a turn of each loop over them comes to.
+use mathlib.Core.Path.{_≡_, refl, sym, ap, _∙_}
+use Prim.Native.Nat.{ℕ, _+_, _<_, _≤_}
+use native.Mathlib.Omega.{arith}
+use native.Mathlib.Decide.{ℕ-discrete}
+use mathlib.Core.Bool.{Bool, true, false}
+use mathlib.Core.List.{List, []}
+use lib.ListN.{length, getD, set, drop, drop-of-length-le}
+use borrow.Author.Tests.{lt-ltb}
+use lib.Seq.{getD-set-same, getD-set-other}
+use Rattle.octets.specs.Words.{if_then_else_, _and_, _or_, some, _<?_}
+use Rattle.octets.proofs.Tests.{if-yes, and-left, and-right, and-next, and-not-left, or-left, or-next}
+use Rattle.octets.proofs.Lists.{drop-next}
+use Rattle.keys.specs.declared.Key.{Key}
+use Rattle.keys.specs.Key.{streamIdOf, markOf}
+use Rattle.keys.proofs.SameKey.{marks-same}
+use Rattle.slots.specs.declared.Slot.{Slot}
+use Rattle.slot_rules.specs.Slots.{hasKey, twice, slotIn, pastSlot}
+use Rattle.slot_rules.specs.Steps.{markAt, Marked}
+
+-- one mark more
+pub marked-more : (l : List Slot) (marks : List ℕ) (n v : ℕ) → n < length marks → Marked l marks n → v ≡ markAt n (slotIn l n) → Marked l (set marks n v) (n + 1)
+marked-more l marks n v h m e i k = go (ℕ-discrete i n)
+  where
+    go : Dec (i ≡ n) → getD (set marks n v) i 0 ≡ markAt i (slotIn l i)
+    go (yes q) = ap (λ (j : ℕ). getD (set marks n v) j 0) q ∙ getD-set-same marks n v 0 h ∙ e ∙ ap (λ (j : ℕ). markAt j (slotIn l j)) (sym q)
+    go (no d) = getD-set-other marks n i v 0 d ∙ m i (omega arith)
+
+-- a slot that has the key has the key's mark
+pub key-marks : (k : Key) (i : ℕ) (x : Slot) → hasKey k x ≡ true → markAt i x ≡ markOf (streamIdOf k)
+unfolding hasKey
+key-marks k i x e = if-yes _ _ _ (and-left (x .used) _ e) ∙ sym (marks-same k (x .key) (and-right (x .used) _ e))
+
+-- so a slot with another mark has not the key
+pub key-unlike : (k : Key) (i : ℕ) (x : Slot) (mark own : ℕ) → mark ≡ markOf (streamIdOf k) → own ≡ markAt i x → (own ≡ mark → ⊥) → hasKey k x ≡ false
+key-unlike k i x mark own p q d = go (hasKey k x) refl
+  where
+    go : (b : Bool) → hasKey k x ≡ b → hasKey k x ≡ false
+    go false e = e
+    go true e = absurd (d (q ∙ key-marks k i x e ∙ sym p))
+
+-- two slots with unlike marks are not alike
+pub marks-unlike : (l : List Slot) (marks : List ℕ) (i j : ℕ) → Marked l marks 32 → i < 32 → j < 32 → (getD marks j 0 ≡ getD marks i 0 → ⊥)
+    → (slotIn l i .used and hasKey (slotIn l i .key) (slotIn l j)) ≡ false
+marks-unlike l marks i j m h k d = go (slotIn l i .used) refl
+  where
+    go : (b : Bool) → slotIn l i .used ≡ b → (slotIn l i .used and hasKey (slotIn l i .key) (slotIn l j)) ≡ false
+    go false u = and-not-left _ _ u
+    go true u =
+        and-next _ _ u
+        ∙ key-unlike (slotIn l i .key) j (slotIn l j) (getD marks i 0) (getD marks j 0) (m i h ∙ if-yes _ _ _ u) (m j k) d
+
+-- a turn of the inner loop, x being the slot of the outer one
+module _ (x : Slot) (l : List Slot) (j : ℕ) (h : j < length l) where
+  pub twice-here : (x .used and hasKey (x .key) (getD l j pastSlot)) ≡ true → twice x (drop j l) ≡ true
+  twice-here e = rw (drop-next l j pastSlot h) (and-next (x .used) _ (and-left (x .used) _ e) ∙ or-left _ _ (and-right (x .used) _ e))
+
+  pub twice-next : (x .used and hasKey (x .key) (getD l j pastSlot)) ≡ false → twice x (drop j l) ≡ twice x (drop (j + 1) l)
+  twice-next e = rw (drop-next l j pastSlot h) (go (x .used) e)
+    where
+      go : (b : Bool) → b and hasKey (x .key) (getD l j pastSlot) ≡ false
+          → b and (hasKey (x .key) (getD l j pastSlot) or some (hasKey (x .key)) (drop (j + 1) l)) ≡ b and some (hasKey (x .key)) (drop (j + 1) l)
+      go true q = or-next _ _ q
+      go false q = refl
+
+pub twice-end : (x : Slot) → twice x [] ≡ false
+twice-end x = go (x .used)
+  where
+    go : (b : Bool) → b and false ≡ false
+    go true = refl
+    go false = refl

@@ -1,0 +1,41 @@
+-- Searches in the slots: what a turn of each loop comes to, and where what was found stands.
+use mathlib.Core.Path.{_≡_}
+use Prim.Native.Nat.{ℕ, suc, _+_, _≤_, _<_}
+use native.Mathlib.Omega.{arith}
+use mathlib.Core.Bool.{Bool, true, false}
+use mathlib.Core.List.{List, [], _∷_}
+use lib.ListN.{length, getD, drop, drop-of-length-le}
+use Rattle.octets.specs.Words.{if_then_else_}
+use Rattle.octets.proofs.Tests.{and-not-left, and-next, no-true, no-false}
+use Rattle.octets.proofs.Lists.{drop-next}
+use Rattle.slots.specs.declared.Slot.{Slot}
+use Rattle.slot_rules.specs.Slots.{Found, twice, distinct, first, count}
+
+-- ---- a turn of a loop
+
+module _ (l : List Slot) (i : ℕ) (d : Slot) (h : i < length l) where
+  pub count-next : (p : Slot → Bool) → count p (drop i l) ≡ (if p (getD l i d) then 1 else 0) + count p (drop (i + 1) l)
+  count-next p = rw (drop-next l i d h)
+
+  pub distinct-not : twice (getD l i d) (drop (i + 1) l) ≡ true → distinct (drop i l) ≡ false
+  distinct-not e = rw (drop-next l i d h) (and-not-left _ _ (no-true _ e))
+
+  pub distinct-next : twice (getD l i d) (drop (i + 1) l) ≡ false → distinct (drop i l) ≡ distinct (drop (i + 1) l)
+  distinct-next e = rw (drop-next l i d h) (and-next _ _ (no-false _ e))
+
+-- past the end
+pub past : (l : List Slot) (i : ℕ) → length l ≤ i → drop i l ≡ []
+past l i h = drop-of-length-le l {i = i} h
+
+-- ---- what was found
+
+pub found-nothing : {A : Type 0} (i : ℕ) → Found.At i ≡ Found.Nothing → A
+found-nothing i e = let z : _≡_ {A = ℕ} 0 1 = cc in absurd (omega arith)
+
+pub first-bound : (p : Slot → Bool) (n i : ℕ) (l : List Slot) → Found.At i ≡ first p n l → i < n + length l
+first-bound p n i [] e = found-nothing i e
+first-bound p n i (x ∷ l) e = go (p x) e (first-bound p (n + 1) i l)
+  where
+    go : (b : Bool) → Found.At i ≡ (if b then Found.At n else first p (n + 1) l) → (Found.At i ≡ first p (n + 1) l → i < n + 1 + length l) → i < n + suc (length l)
+    go true q r = let z : i ≡ n = cc in omega arith
+    go false q r = omega (arith, r q)

@@ -1,0 +1,29 @@
+-- What the private steps of the code come to. No public promise cites this file.
+use Prim.Native.Nat.{ℕ, _+_, _<_, _≤_}
+use mathlib.Core.Path.{_≡_}
+use mathlib.Core.Bool.{Bool}
+use mathlib.Core.List.{List}
+use lib.ListN.{length, getD, drop}
+use Rattle.octets.specs.Words.{if_then_else_, _<?_}
+use Rattle.keys.specs.Key.{streamIdOf, markOf}
+use Rattle.slots.specs.declared.Slot.{Slot}
+use Rattle.slot_rules.specs.Slots.{Found, first, slotIn}
+
+-- the mark of slot i: that of its key, where it is open
+abbrev pub markAt : ℕ → Slot → ℕ
+markAt i x = if x .used then markOf (streamIdOf (x .key)) else (4294967296 + i)
+
+-- the marks of the first n slots
+abbrev pub Marked : List Slot → List ℕ → ℕ → Type 0
+Marked l marks n = (i : ℕ) → i < n → getD marks i 0 ≡ markAt i (slotIn l i)
+
+-- the first place that passed, the places before i having been looked at
+abbrev pub seenAt : ℕ → ℕ → Bool → ℕ
+seenAt found i passes = if found <? 32 then found else if passes then i else 32
+
+abbrev pub foundOr : ℕ → Found → Found
+foundOr found rest = if found <? 32 then Found.At found else rest
+
+-- the slots before i having been looked at, what was found and the rest decide
+abbrev pub Seen : (Slot → Bool) → List Slot → ℕ → ℕ → Type 0
+Seen p l found i = (found ≤ 32) × (first p 0 l ≡ foundOr found (first p i (drop i l)))
