@@ -19,7 +19,7 @@ use Rattle.crc16.specs.Crc.{bitFeed}
 use Rattle.envelope.specs.Texts.{fitted, padded}
 use Rattle.envelope.specs.Rules.{idIn, ttlIn, fragmentIn, callIn, streamIn, addressIn, envelope}
 use Rattle.tokens.specs.Cuts.{has, before, after, split}
-use Rattle.tokens.specs.Tokens.{given, value, others, lastOnly, keyed}
+use Rattle.tokens.specs.Tokens.{present, value, others, lastOnly, keyed}
 use Rattle.line_values.specs.Values.{isPart}
 use Rattle.line_groups.specs.Rules.{payloadGood, singlesGood, fragmentGood, streamGood}
 use Rattle.line_places.specs.Headers.{headersFit, headersOf}
@@ -48,5 +48,5 @@ emptyData = lent (100 ∷ 97 ∷ 116 ∷ 97 ∷ 32 ∷ 100 ∷ 97 ∷ 51 ∷ 57 
 
 pub message-met : call (afterAll atFirst (emptyOffer ∷ []) .session) emptyData .answered .happening .what
     ≡ what.message (record { id = 0xDA39A3E; «has_salt» = false; salt = pos 0; len = 0 })
-unfolding same utf.run digits.value runs.run runs.rest alnum suffix baseLength callsign appByte atCallsign destination reserved reservedKeys textByte ruled idText streamId headerKey headerValue allDiffer keyOf keysOf valueOf header headers bitFeed fitted padded idIn ttlIn fragmentIn callIn streamIn addressIn envelope has before after split given value others lastOnly keyed plain isText framed payloadGood singlesGood isPart fragmentGood streamGood headersFit headersOf fieldsOf valuesGood wellFormed chkRight refusalOf readOf lineOf quarter scheduled schedule round rounds plus compressed padding fed verb spells kindOf isData keepsTerms completed heard dataHeard keepsLine keepsPayload keepsSession feed stepOf digits.digits
+unfolding same utf.run digits.value runs.run runs.rest alnum suffix baseLength callsign appByte atCallsign destination reserved reservedKeys textByte ruled idText streamId headerKey headerValue allDiffer keyOf keysOf valueOf header headers bitFeed fitted padded idIn ttlIn fragmentIn callIn streamIn addressIn envelope has before after split present value others lastOnly keyed plain isText framed payloadGood singlesGood isPart fragmentGood streamGood headersFit headersOf fieldsOf valuesGood wellFormed chkRight refusalOf readOf lineOf quarter scheduled schedule round rounds plus compressed padding fed verb spells kindOf isData keepsTerms completed heard dataHeard keepsLine keepsPayload keepsSession feed stepOf digits.digits
 message-met = refl
