@@ -4,9 +4,8 @@ use mathlib.Core.Path.{_≡_, ap, sym, _∙_}
 use mathlib.Core.Bool.{Bool, true, false}
 use mathlib.Core.List.{List}
 use lib.IntN.{ℤ}
-use Rattle.octets.specs.Words.{_and_, _or_}
 use Rattle.octets.specs.Bytes.{same}
-use Rattle.octets.proofs.Tests.{if-yes, if-no, and-both, and-left, and-right, and-not-left, and-not-right}
+use Rattle.octets.proofs.Tests.{if-yes, if-no, and-both, and-not-left, and-not-right}
 use Rattle.text.specs.Digits as digits
 use Rattle.text.specs.Decimal.{isNumber, number, isSigned}
 use Rattle.tokens.specs.Cuts.{before, after}
@@ -18,7 +17,7 @@ use Rattle.line_values.specs.declared.Master.{Master}
 use Rattle.line_values.specs.declared.Part.{Part}
 use Rattle.line_values.proofs.Single.{decimal-good, decimal-says, master-good, master-says, part-good, part-says, number-if-good, number-if-says, salt-if-good, salt-if-says, chk-if-good, chk-if-says}
 use Rattle.line_words.specs.Standing.{alike, allOrNone, formatRule}
-use Rattle.line_words.proofs.Flags.{same-flag, two-fail}
+use Rattle.line_words.proofs.Flags.{same-flag}
 use Rattle.line_groups.specs.Rules.{kept, 'p', 'd'}
 use Rattle.line_groups.specs.Answers.{noPayload, payloadBy, noSingles, singlesBy, noFragment, fragmentBy, noStream, streamBy}
 use Rattle.line_groups.specs.declared.Payload.{Payload}
@@ -48,21 +47,19 @@ module _ (len fmt : List ℕ) (has : Bool) (clen : List ℕ) (n : Decimal) (read
       pub payload-format : f ≡ false → (r : Payload) → r ≡ noPayload → r ≡ payloadBy len fmt has clen
       unfolding payloadBy
       payload-format e r q =
-          q ∙ sym (if-no _ _ _ (and-not-right (isNumber 2147483647 len) _ (two-fail (same fmt 'p' or same fmt 'd') (alike has (same fmt 'd')) (kept has (isNumber 2147483647) clen) (format-is ∙ e))))
+          q ∙ sym (if-no _ _ _ (and-not-right (isNumber 2147483647 len) _ (and-not-left _ _ (format-is ∙ e))))
 
       module _ (e : f ≡ true) (m : Decimal) (read-m : m ≡ numberIf 2147483647 has clen) where
         pub payload-clen : m .good ≡ false → (r : Payload) → r ≡ noPayload → r ≡ payloadBy len fmt has clen
         unfolding payloadBy
         payload-clen g r q =
-            q ∙ sym (if-no _ _ _ (and-not-right (isNumber 2147483647 len) _ (and-not-right (same fmt 'p' or same fmt 'd') _ (and-not-right (alike has (same fmt 'd')) _ (sym (number-if-good has clen 2147483647 m read-m) ∙ g)))))
+            q ∙ sym (if-no _ _ _ (and-not-right (isNumber 2147483647 len) _ (and-not-right (formatRule (same fmt 'p') (same fmt 'd') has) _ (sym (number-if-good has clen 2147483647 m read-m) ∙ g))))
 
         pub payload-all : m .good ≡ true → record { good = true; len = n .number; deflated = d } ≡ payloadBy len fmt has clen
         unfolding payloadBy
         payload-all g =
-            let both = format-is ∙ e in
             rw (len-says, is-d)
-            (sym (if-yes _ _ _ (and-both (isNumber 2147483647 len) _ len-good (and-both (same fmt 'p' or same fmt 'd') _ (and-left (same fmt 'p' or same fmt 'd') (alike has (same fmt 'd')) both)
-            (and-both (alike has (same fmt 'd')) _ (and-right (same fmt 'p' or same fmt 'd') (alike has (same fmt 'd')) both) (sym (number-if-good has clen 2147483647 m read-m) ∙ g))))))
+            (sym (if-yes _ _ _ (and-both (isNumber 2147483647 len) _ len-good (and-both (formatRule (same fmt 'p') (same fmt 'd') has) _ (format-is ∙ e) (sym (number-if-good has clen 2147483647 m read-m) ∙ g)))))
 
 -- ---- `s`, `ttl` and `chk`
 
@@ -134,7 +131,7 @@ module _ (hasSid hasSn : Bool) (sn : List ℕ) (hasGt : Bool) (gt : List ℕ) wh
   pub stream-apart : (t : Bool) → t ≡ allOrNone hasSid hasSn hasGt → t ≡ false → (r : Stream) → r ≡ noStream false → r ≡ answer
   unfolding streamBy
   stream-apart t is-t e r q =
-      q ∙ sym (if-no _ _ _ (two-fail (alike hasSid hasSn) (alike hasSid hasGt) (kept hasSn (isNumber 4294967295) sn and kept hasGt (isNumber 4294967295) gt) (sym is-t ∙ e)))
+      q ∙ sym (if-no _ _ _ (and-not-left _ _ (sym is-t ∙ e)))
 
   module _ (a : hasSn ≡ hasSid) (b : hasGt ≡ hasSid) where
     pub stream-none : hasSid ≡ false → (r : Stream) → r ≡ noStream true → r ≡ answer

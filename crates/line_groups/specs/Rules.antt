@@ -3,14 +3,14 @@
 use Prim.Native.Nat.{ℕ}
 use mathlib.Core.Bool.{Bool, true}
 use mathlib.Core.List.{List, [], _∷_}
-use Rattle.octets.specs.Words.{if_then_else_, _and_, _or_}
+use Rattle.octets.specs.Words.{if_then_else_, _and_}
 use Rattle.octets.specs.Bytes.{same}
 use Rattle.text.specs.Decimal.{isNumber, isSigned}
 use Rattle.text.specs.Hex.{isHex}
 use Rattle.names.specs.Reserved.{keyLen, keyFmt, keyS, keyClen, keyChk, keyTtl, keyMid, keyFrag, keySid, keySn, keyGt}
 use Rattle.tokens.specs.Tokens.{Token, present, value}
 use Rattle.line_values.specs.Values.{isPart}
-pub use Rattle.line_words.specs.Standing.{alike}
+pub use Rattle.line_words.specs.Standing.{alike, allOrNone, formatRule}
 
 -- a value that may be missing: where it is there, it keeps a rule
 abbrev pub kept : Bool → (List ℕ → Bool) → List ℕ → Bool
@@ -32,9 +32,8 @@ abbrev pub 'd' : List ℕ
 abbrev pub payloadRule : List ℕ → List ℕ → Bool → List ℕ → Bool
 payloadRule len fmt hasClen clen =
     isNumber 2147483647 len
-    and ((same fmt 'p' or same fmt 'd')
-    and (alike hasClen (same fmt 'd')
-    and kept hasClen (isNumber 2147483647) clen))
+    and (formatRule (same fmt 'p') (same fmt 'd') hasClen
+    and kept hasClen (isNumber 2147483647) clen)
 
 -- `s` a signed number, `ttl` up to 2147483647, `chk` four hex digits
 abbrev pub singlesRule : Bool → List ℕ → Bool → List ℕ → Bool → List ℕ → Bool
@@ -47,9 +46,8 @@ fragmentRule hasMid mid hasFrag frag = alike hasMid hasFrag and (kept hasMid (is
 -- `sid`, `sn`, `gt` all or none; `sn`, `gt` 0 to 4294967295
 abbrev pub streamRule : Bool → Bool → List ℕ → Bool → List ℕ → Bool
 streamRule hasSid hasSn sn hasGt gt =
-    alike hasSid hasSn
-    and (alike hasSid hasGt
-    and (kept hasSn (isNumber 4294967295) sn and kept hasGt (isNumber 4294967295) gt))
+    allOrNone hasSid hasSn hasGt
+    and (kept hasSn (isNumber 4294967295) sn and kept hasGt (isNumber 4294967295) gt)
 
 -- ---- by a line's tokens
 

@@ -26,7 +26,7 @@ use Rattle.tokens.specs.Cuts.{before, after}
 use Rattle.tokens.specs.Tokens.{Token, tokens, present, value, others}
 use Rattle.tokens.proofs.Lookups.{value-missing}
 use Rattle.line_values.specs.Values.{slash, isPart}
-use Rattle.line_groups.specs.Rules.{alike, optional, deflated, payloadGood, singlesGood, fragmentGood, streamGood}
+use Rattle.line_groups.specs.Rules.{alike, allOrNone, optional, deflated, payloadGood, singlesGood, fragmentGood, streamGood}
 use Rattle.line_groups.specs.Answers.{lenOf}
 use Rattle.line_places.specs.Headers.{headersFit, headerOf, headersOf}
 use Rattle.line.specs.Reading.{idWord, restOf, isText, framed, fieldsOf, lineOf, valuesGood, wellFormed, chkRight, refusalOf, answered, readOf}
@@ -152,16 +152,18 @@ module _ (s : List ℕ) (ok : refusalOf s ≡ 0) where
   unfolding fragmentGood
   mid-frag = alike-same (present keyMid ts) (present keyFrag ts) (and-left (alike (present keyMid ts) (present keyFrag ts)) (optional keyMid (isHex 7) ts and optional keyFrag isPart ts) (kept s ok .fragment))
 
-  abbrev after-sn : Bool
-  after-sn = alike (present keySid ts) (present keyGt ts) and (optional keySn (isNumber 4294967295) ts and optional keyGt (isNumber 4294967295) ts)
+  abbrev numbers : Bool
+  numbers = optional keySn (isNumber 4294967295) ts and optional keyGt (isNumber 4294967295) ts
+
+  together : allOrNone (present keySid ts) (present keySn ts) (present keyGt ts) ≡ true
+  unfolding streamGood
+  together = and-left (allOrNone (present keySid ts) (present keySn ts) (present keyGt ts)) numbers (kept s ok .stream)
 
   pub sid-sn : present keySid ts ≡ present keySn ts
-  unfolding streamGood
-  sid-sn = alike-same (present keySid ts) (present keySn ts) (and-left (alike (present keySid ts) (present keySn ts)) after-sn (kept s ok .stream))
+  sid-sn = alike-same (present keySid ts) (present keySn ts) (and-left (alike (present keySid ts) (present keySn ts)) _ together)
 
   pub sid-gt : present keySid ts ≡ present keyGt ts
-  unfolding streamGood
-  sid-gt = alike-same (present keySid ts) (present keyGt ts) (and-left (alike (present keySid ts) (present keyGt ts)) (optional keySn (isNumber 4294967295) ts and optional keyGt (isNumber 4294967295) ts) (and-right (alike (present keySid ts) (present keySn ts)) after-sn (kept s ok .stream)))
+  sid-gt = alike-same (present keySid ts) (present keyGt ts) (and-right (alike (present keySid ts) (present keySn ts)) _ together)
 
   pub accepted-tidy : tidy (lineOf s .fields) ≡ lineOf s .fields
   unfolding lineOf fieldsOf tidy before after digits.value
@@ -214,12 +216,9 @@ module _ (s : List ℕ) (ok : refusalOf s ≡ 0) where
       go true g f = fits-signed (value keyS ts) f
       go false g f = rw (value-missing keyS ts g) (record { sfits = omega arith })
 
-  abbrev numbers : Bool
-  numbers = optional keySn (isNumber 4294967295) ts and optional keyGt (isNumber 4294967295) ts
-
   numbers-good : numbers ≡ true
   unfolding streamGood
-  numbers-good = and-right (alike (present keySid ts) (present keyGt ts)) numbers (and-right (alike (present keySid ts) (present keySn ts)) after-sn (kept s ok .stream))
+  numbers-good = and-right (allOrNone (present keySid ts) (present keySn ts) (present keyGt ts)) numbers (kept s ok .stream)
 
   pub items-eight : length (headersOf (others ts) .items) ≡ 8
   unfolding headersOf headersFit

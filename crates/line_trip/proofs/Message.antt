@@ -38,7 +38,7 @@ use Rattle.envelope.specs.Tidy.{tidyHeader, tidyHeaders, tidy}
 use Rattle.tokens.specs.Cuts.{has, before, after}
 use Rattle.tokens.specs.Tokens.{Token, token, tokenOf, words, tokens, keys, present, value, others, lastOnly, keyed, wordOf, spaced, space, equals}
 use Rattle.line_values.specs.Values.{slash, isPart}
-use Rattle.line_groups.specs.Rules.{alike, 'p', 'd', deflated, payloadGood, singlesGood, fragmentGood, streamGood}
+use Rattle.line_groups.specs.Rules.{alike, allOrNone, formatRule, 'p', 'd', deflated, payloadGood, singlesGood, fragmentGood, streamGood}
 use Rattle.line_groups.specs.Answers.{lenOf}
 use Rattle.line_places.specs.Headers.{shortValue, headersFit, headerOf, headersOf}
 use Rattle.line.specs.Reading.{ihave, verbWord, idWord, restOf, plain, isText, framed, fieldsOf, lineOf, valuesGood, wellFormed, chkRight, refusalOf, readOf, answered, Read}
@@ -408,8 +408,7 @@ module _ (m : Line) (good : messageGood m ≡ true) (typed : Typed m) where
   unfolding payloadGood same
   payload-good =
       and-both (isNumber 2147483647 (value keyLen (allOf m))) _ (ap (isNumber 2147483647) v-len ∙ number-is 2147483647 (m .len) len-fits .0)
-      (and-both (same (value keyFmt (allOf m)) 'p' or deflated (allOf m)) _ (or-left _ _ (ap (λ (v : List ℕ). same v 'p') v-fmt))
-      (and-both (alike (present keyClen (allOf m)) (deflated (allOf m))) _ (rw (g-clen, v-fmt)) (if-no _ _ _ g-clen)))
+      (and-both (formatRule (same (value keyFmt (allOf m)) 'p') (deflated (allOf m)) (present keyClen (allOf m))) _ (rw (g-clen, v-fmt)) (if-no _ _ _ g-clen))
 
   singles-good : singlesGood (allOf m) ≡ true
   unfolding singlesGood
@@ -431,11 +430,11 @@ module _ (m : Line) (good : messageGood m ≡ true) (typed : Typed m) where
   stream-good : streamGood (allOf m) ≡ true
   unfolding streamGood
   stream-good =
-      and-both (alike (present keySid (allOf m)) (present keySn (allOf m))) _ (alike-back (e .«has_stream») _ _ g-sid g-sn)
-      (and-both (alike (present keySid (allOf m)) (present keyGt (allOf m))) _ (alike-back (e .«has_stream») _ _ g-sid g-gt)
+      and-both (allOrNone (present keySid (allOf m)) (present keySn (allOf m)) (present keyGt (allOf m))) _
+      (and-both (alike (present keySid (allOf m)) (present keySn (allOf m))) _ (alike-back (e .«has_stream») _ _ g-sid g-sn) (alike-back (e .«has_stream») _ _ g-sid g-gt))
       (and-both (if present keySn (allOf m) then isNumber 4294967295 (value keySn (allOf m)) else true) _
       (rule-back (isNumber 4294967295) (e .«has_stream») _ (decimal (e .sn)) _ g-sn v-sn (λ b. number-is 4294967295 (e .sn) (omega (arith, typed .sn-fits)) .0))
-      (rule-back (isNumber 4294967295) (e .«has_stream») _ (decimal (e .gt)) _ g-gt v-gt (λ b. number-is 4294967295 (e .gt) (omega (arith, typed .gt-fits)) .0))))
+      (rule-back (isNumber 4294967295) (e .«has_stream») _ (decimal (e .gt)) _ g-gt v-gt (λ b. number-is 4294967295 (e .gt) (omega (arith, typed .gt-fits)) .0)))
 
   counted-all : length (others (allOf m)) ≡ e .headers .count
   counted-all = ap length others-all ∙ length-map items headerToken ∙ counted (e .headers) (typed .eight) (r .headers-rule)

@@ -20,7 +20,7 @@ use Rattle.callsigns.specs.Callsign.{baseLength, callsign}
 use Rattle.callsigns.specs.Destination.{destination}
 use Rattle.crc16.specs.Crc.{crc16}
 use Rattle.names.specs.Texts.{idText, streamId, headerKey}
-use Rattle.names.specs.Reserved.{reserved, keyLen, keyFmt, keyS, keyDst, keyChk, keyTtl, keySrc, keyMid, keyFrag, keySid, keySn, keyGt}
+use Rattle.names.specs.Reserved.{reserved, keyLen, keyFmt, keyS, keyClen, keyDst, keyChk, keyTtl, keySrc, keyMid, keyFrag, keySid, keySn, keyGt}
 use Rattle.headers.specs.Keys.{allDiffer, keyOf}
 use Rattle.headers.specs.Rule.{valueOf, header}
 use Rattle.tokens.specs.Cuts.{has, before, after, onto, split}
@@ -29,7 +29,7 @@ use Rattle.tokens.proofs.Lookups.{value-missing}
 use Rattle.envelope.specs.Texts.{fitted, callText, addressText, streamText, headerText}
 use Rattle.envelope.specs.Rules.{callBytes, addressBytes, streamBytes, callIn, addressIn, streamIn}
 use Rattle.line_values.specs.Values.{slash, isPart}
-use Rattle.line_groups.specs.Rules.{alike, optional, 'p', deflated, payloadGood, singlesGood, fragmentGood, streamGood}
+use Rattle.line_groups.specs.Rules.{alike, allOrNone, formatRule, optional, 'p', deflated, payloadGood, singlesGood, fragmentGood, streamGood}
 use Rattle.line_places.specs.Headers.{shortValue, headersFit, headerOf, headersOf}
 use Rattle.line.specs.Reading.{ihave, verbWord, idWord, restOf, framed, fieldsOf, lineOf, chkRight, refusalOf}
 use Rattle.line.specs.Writing.{Choice, chosen, partText, choicesOf, headerToken, headerTokens, dstToken, tokensOf, bodyOf, chkToken, printOf}
@@ -295,7 +295,7 @@ module _ (s : List ℕ) (ok : refusalOf s ≡ 0) (ordered : InOrder (tokens (res
 
   fmt-p : same (value keyFmt ts) 'p' ≡ true
   unfolding payloadGood
-  fmt-p = go (same (value keyFmt ts) 'p') (and-left (same (value keyFmt ts) 'p' or deflated ts) _ (and-right (isNumber 2147483647 (value keyLen ts)) _ (k .payload)))
+  fmt-p = go (same (value keyFmt ts) 'p') (and-left (same (value keyFmt ts) 'p' or deflated ts) _ (and-left (formatRule (same (value keyFmt ts) 'p') (deflated ts) (present keyClen ts)) _ (and-right (isNumber 2147483647 (value keyLen ts)) _ (k .payload))))
     where
       go : (b : Bool) → b or deflated ts ≡ true → b ≡ true
       go true e = refl
@@ -327,7 +327,7 @@ module _ (s : List ℕ) (ok : refusalOf s ≡ 0) (ordered : InOrder (tokens (res
 
   numbers : optional keySn (isNumber 4294967295) ts and optional keyGt (isNumber 4294967295) ts ≡ true
   unfolding streamGood
-  numbers = and-right (alike (present keySid ts) (present keyGt ts)) _ (and-right (alike (present keySid ts) (present keySn ts)) _ (k .stream))
+  numbers = and-right (allOrNone (present keySid ts) (present keySn ts) (present keyGt ts)) _ (k .stream)
 
   sn-good : present keySn ts ≡ true → isNumber 4294967295 (value keySn ts) ≡ true
   sn-good = when-set (present keySn ts) (isNumber 4294967295 (value keySn ts)) (and-left (optional keySn (isNumber 4294967295) ts) _ numbers)

@@ -41,9 +41,3 @@ module _ (sid sn gt r : Bool) (is-r : r ≡ allOrNone sid sn gt) (e : r ≡ true
 
   pub gt-alike : gt ≡ sid
   gt-alike = same-flag sid gt (and-right (alike sid sn) (alike sid gt) (sym is-r ∙ e))
-
--- what fails of the first two fails of all three
-pub two-fail : (a b c : Bool) → a and b ≡ false → a and (b and c) ≡ false
-two-fail true true c e = true-not-false true refl e
-two-fail true false c e = refl
-two-fail false b c e = refl
