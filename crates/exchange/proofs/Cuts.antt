@@ -9,16 +9,15 @@ use mathlib.Core.Logic.{_⊎_, inl, inr}
 use mathlib.Core.List.{List, [], _∷_}
 use lib.ListN.{length}
 use borrow.Author.Tests.{eqb-true, eqb-false, le-ltb}
-use Rattle.octets.specs.Words.{_or_, no, _<?_, _=?_}
+use Rattle.octets.specs.Words.{_=?_}
 use Rattle.octets.proofs.Tests.{or-next}
-use Rattle.refusals.specs.Numbers.{longestPayload}
 use Rattle.machine.specs.Machine.{quiet, Out, run, seen}
 use Rattle.machine.proofs.Cuts.{used-some, calls-bytes, stream-seen, goes-through}
 use Rattle.talk.specs.declared.Session.{Session}
 use Rattle.talk.specs.Answer.{Happening}
 use Rattle.talk.specs.Talk.{nothing}
 use Rattle.session.specs.Feed.{feed}
-use Rattle.session_rules.specs.Rules.{keepsSession, longestReply}
+use Rattle.session_rules.specs.Rules.{keepsSession, stepRefusal}
 use Rattle.session.specs.Calls.{Outcome, stepOf}
 use Rattle.session.proofs.Tests.{step-goes}
 use Rattle.exchange.specs.Host.{Lent, noted, isClosed, stepOn, pieceOf, usedBytes, sees, Goes}
@@ -46,10 +45,7 @@ module _ (s : Session) (c : Lent) where
 
   pub serves : Served (stepOf s (c .piece) (c .payload) (c .room))
   unfolding stepOf
-  serves =
-      on Served (no (keepsSession s)) _ _ (λ a. inr refl)
-      (λ a. on Served (s .mode =? 3) _ _ (λ b. inr refl)
-      (λ b. on Served (length (c .payload) <? longestPayload or c .room <? longestReply) _ _ (λ d. inr refl) (λ d. inl refl)))
+  serves = on Served (stepRefusal s (length (c .payload)) (c .room) =? 0) _ _ (λ a. inl refl) (λ a. inr refl)
 
 -- THE THEOREM over any list of calls, from any session
 pub calls-are-bytes : (s : Session) (cs : List Lent) → sees s cs ≡ seen feed noted s (usedBytes s cs)

@@ -7,7 +7,7 @@ use mathlib.Core.List.{List, []}
 use lib.ListN.{length, drop, getD, set, length-set}
 use lib.Seq.{drop-set-lt}
 use borrow.Author.Tests.{lt-ltb, le-leb, eqb-true, eqb-false, ltb-true, ltb-false}
-use Rattle.octets.specs.Words.{if_then_else_, _and_, _or_, no, every, _<?_, _≤?_, _=?_}
+use Rattle.octets.specs.Words.{if_then_else_, _and_, no, every, _<?_, _≤?_, _=?_}
 use Rattle.octets.proofs.Tests.{and-left, and-right, and-both, if-yes}
 use Rattle.octets.proofs.Lists.{drop-next}
 use Rattle.refusals.specs.Numbers.{lineMalformed, chkDiffers, formatD, payloadTooLong, longestPayload, bufferTooShort}
@@ -32,7 +32,7 @@ use Rattle.talk.specs.Answer.{Happening}
 use Rattle.talk.specs.Sessions.{termsOf, keepsTerms, salted, listening, promised, receiving, closed, lineSoFar}
 use Rattle.talk.specs.Talk.{Turn, nothing, offered, completed, heardAs, heard, dataHeard}
 use Rattle.session.specs.Feed.{pushed, taken, obeyed, feedLine, feedPayload, feed}
-use Rattle.session_rules.specs.Rules.{keepsLine, keepsPayload, keepsSession, longestReply}
+use Rattle.session_rules.specs.Rules.{keepsLine, keepsPayload, keepsSession, longestReply, stepRefusal}
 use Rattle.session.specs.Calls.{Outcome, openOf, stepOf}
 use Rattle.session.specs.Answer as answer
 use Rattle.session_rules.proofs.Tests.{longest, Kept, kept, keep, line-rest, payload-comes, payload-none, mode-low}
@@ -199,6 +199,4 @@ Keeping o = keepsSession (o .answered .next) ≡ true
 pub step-keeps : (s : Session) (piece pl : List ℕ) (room : ℕ) → keepsSession s ≡ true → keepsSession (stepOf s piece pl room .answered .next) ≡ true
 unfolding stepOf
 step-keeps s piece pl room e =
-    on Keeping (no (keepsSession s)) _ _ (λ a. e)
-    (λ a. on Keeping (s .mode =? 3) _ _ (λ b. e)
-    (λ b. on Keeping (length pl <? longestPayload or room <? longestReply) _ _ (λ c. e) (λ c. run-keeps feed nothing Keeps feed-ok 0 s piece e)))
+    on Keeping (stepRefusal s (length pl) room =? 0) _ _ (λ a. run-keeps feed nothing Keeps feed-ok 0 s piece e) (λ a. e)

@@ -10,8 +10,7 @@ use mathlib.Core.List.{List, [], _∷_, _++_, append-nil}
 use lib.ListN.{length, take, drop, getD, length-append, take-append-drop, List·getD-append}
 use lib.Seq.{getD-append-add, getD-take, length-take-le, take-all, ext-getD}
 use borrow.Author.Tests.{eqb-true, eqb-false, ltb-false, lt-ltb, eq-eqb, ne-eqb}
-use Rattle.octets.specs.Words as words
-use Rattle.octets.specs.Words.{if_then_else_, _and_, _or_, _<?_, _=?_}
+use Rattle.octets.specs.Words.{if_then_else_, _and_, _<?_, _=?_}
 use Rattle.octets.specs.Bytes.{placed}
 use Rattle.octets.proofs.Tests.{if-yes, if-no, and-left, and-right}
 use Rattle.octets.proofs.Lists.{placed-in, length-placed}
@@ -38,11 +37,11 @@ use Rattle.talk.specs.Answer as what
 use Rattle.talk.specs.Sessions.{keepsTerms, salted, lineSoFar, listening}
 use Rattle.talk.specs.Talk.{Turn, nothing, message, offered, completed, heardAs, heard, dataHeard}
 use Rattle.session.specs.Feed.{obeyed, feed}
-use Rattle.session_rules.specs.Rules.{keepsSession, longestReply}
+use Rattle.session_rules.specs.Rules.{keepsSession, stepRefusal}
 use Rattle.session.specs.Answer as answer
 use Rattle.session.specs.Calls.{Outcome, refused, made, stored, went, stepOf}
 use Rattle.session.proofs.Runs.{received, run-payload, run-whole}
-use Rattle.session_rules.proofs.Tests.{Kept, kept, terms-bound, payload-bound, mode-low, long-enough}
+use Rattle.session_rules.proofs.Tests.{Kept, kept, terms-bound, payload-bound, mode-low, long-enough, Passed, passed}
 use Rattle.exchange.specs.Host.{Lent, call, Between, atFirst, afterAs, after, afterAll}
 use Rattle.exchange.proofs.Keeps.{on, listening-keeps, step-keeps}
 
@@ -303,20 +302,25 @@ module _ (h : Between) (c : Lent) (k : Sound h) where
   went-fair : Went O → Asked (went s (c .piece) (c .payload) O)
   went-fair r = record { digest = r .digest; places = r .places; message = r .message }
 
+  abbrev number : ℕ
+  number = stepRefusal s (length (c .payload)) (c .room)
+
   right : Asked (call s c)
   unfolding stepOf
   right =
-      on Asked (words.no (keepsSession s)) _ _ (λ a. refused-fair 40)
-      (λ a. on Asked (s .mode =? 3) _ _ (λ b. refused-fair 22)
-      (λ b. on Asked (length (c .payload) <? longestPayload or c .room <? longestReply) _ _ (λ d. refused-fair 5)
-      (λ d. went-fair (goes b (long-enough (length (c .payload)) (c .room) d .0)))))
+      on Asked (number =? 0) _ _
+      (λ a. went-fair (goes (passed s (length (c .payload)) (c .room) number refl (omega (arith, eqb-true number 0 a)))))
+      (λ a. refused-fair number)
     where
-      goes : (s .mode =? 3) ≡ false → longestPayload ≤ length (c .payload) → Went O
-      goes b room = by (s .mode =? 2) refl
+      goes : Passed s (length (c .payload)) (c .room) → Went O
+      goes g = by (s .mode =? 2) refl
         where
+          room : longestPayload ≤ length (c .payload)
+          room = long-enough (length (c .payload)) (c .room) (g .long) .0
+
           by : (t : Bool) → (s .mode =? 2) ≡ t → Went O
           by true e = payload-right room (eqb-true _ _ e)
-          by false e = line-right room (mode-low s (kept s (k .keeps)) (eqb-false _ _ b) (eqb-false _ _ e))
+          by false e = line-right room (mode-low s (kept s (k .keeps)) (g .going) (eqb-false _ _ e))
 
   kept-after : (a : answer.Answer) (o : Outcome) → keepsSession (o .answered .next) ≡ true → keepsSession (afterAs a h c o .session) ≡ true
   kept-after (answer.refused n) o e = k .keeps

@@ -31,7 +31,7 @@ use Rattle.phrases.specs.Lines.{verb, spells, kindOf, isData}
 use Rattle.talk.specs.Answer as what
 use Rattle.talk.specs.Sessions.{keepsTerms}
 use Rattle.talk.specs.Talk.{completed, heard, dataHeard}
-use Rattle.session_rules.specs.Rules.{keepsLine, keepsPayload, keepsSession}
+use Rattle.session_rules.specs.Rules.{keepsLine, keepsPayload, keepsSession, stepRefusal}
 use Rattle.session.specs.Feed.{feed}
 use Rattle.session.specs.Calls.{stepOf}
 use Rattle.exchange.specs.Host.{Lent, call, atFirst, afterAll}
@@ -48,5 +48,5 @@ emptyData = lent (100 ∷ 97 ∷ 116 ∷ 97 ∷ 32 ∷ 100 ∷ 97 ∷ 51 ∷ 57 
 
 pub message-met : call (afterAll atFirst (emptyOffer ∷ []) .session) emptyData .answered .happening .what
     ≡ what.message (record { id = 0xDA39A3E; «has_salt» = false; salt = pos 0; len = 0 })
-unfolding same utf.run digits.value runs.run runs.rest alnum suffix baseLength callsign appByte atCallsign destination reserved reservedKeys textByte ruled idText streamId headerKey headerValue allDiffer keyOf keysOf valueOf header headers bitFeed fitted padded idIn ttlIn fragmentIn callIn streamIn addressIn envelope has before after split present value others lastOnly keyed plain isText framed payloadGood singlesGood isPart fragmentGood streamGood headersFit headersOf fieldsOf valuesGood wellFormed chkRight refusalOf readOf lineOf quarter scheduled schedule round rounds plus compressed padding fed verb spells kindOf isData keepsTerms completed heard dataHeard keepsLine keepsPayload keepsSession feed stepOf digits.digits
+unfolding same utf.run digits.value runs.run runs.rest alnum suffix baseLength callsign appByte atCallsign destination reserved reservedKeys textByte ruled idText streamId headerKey headerValue allDiffer keyOf keysOf valueOf header headers bitFeed fitted padded idIn ttlIn fragmentIn callIn streamIn addressIn envelope has before after split present value others lastOnly keyed plain isText framed payloadGood singlesGood isPart fragmentGood streamGood headersFit headersOf fieldsOf valuesGood wellFormed chkRight refusalOf readOf lineOf quarter scheduled schedule round rounds plus compressed padding fed verb spells kindOf isData keepsTerms completed heard dataHeard keepsLine keepsPayload keepsSession stepRefusal feed stepOf digits.digits
 message-met = refl

@@ -53,7 +53,7 @@ abbrev pub Goes : Session → List ℕ → List Lent → Type 0
 Goes = Through stepOn pieceOf isClosed noted
 
 -- ---- what the host has between two calls: the session; of the payload that comes, or has just come, the bytes received; the payload buffer
--- as the last call that was made left it; and at which places every buffer lent since their byte came to a call that was made had what the one before left
+-- as the last made call left it; and at which places each made call since the byte came was lent what the made call before it left
 pub record Between : Type 0 where
   pub session : Session
   pub received : List ℕ

@@ -2,15 +2,14 @@
 use mathlib.Core.Path.{_≡_, refl, sym, ap, _∙_}
 use Prim.Native.Nat.{ℕ, _≤_, _<_}
 use native.Mathlib.Omega.{arith}
-use mathlib.Core.Bool.{Bool, true, false}
+use mathlib.Core.Bool.{true, false}
 use mathlib.Core.List.{List, []}
 use lib.ListN.{length, take}
 use borrow.Author.Tests.{eq-eqb, ne-eqb, lt-ltb, le-ltb}
 use Rattle.octets.specs.Words.{if_then_else_, _or_, _<?_, _=?_}
-use Rattle.octets.specs.Words as words
 use Rattle.octets.specs.Bytes.{front, placed}
-use Rattle.octets.proofs.Tests.{if-yes, if-no, no-true}
-use Rattle.refusals.specs.Numbers.{bufferTooShort, sessionClosed, stateBroken, longestPayload}
+use Rattle.octets.proofs.Tests.{if-yes, if-no}
+use Rattle.refusals.specs.Numbers.{bufferTooShort, longestPayload}
 use Rattle.replies.specs.Replies.{prompt, wrote}
 use Rattle.machine.specs.Machine.{run}
 use Rattle.talk.specs.declared.Session.{Session}
@@ -18,8 +17,8 @@ use Rattle.talk.specs.Sessions.{lineSoFar, listening, closed}
 use Rattle.talk.specs.Talk.{nothing}
 use Rattle.session.specs.Answer as answer
 use Rattle.session.specs.Feed.{feed}
-use Rattle.session_rules.specs.Rules.{keepsSession, longestReply, refusalOf}
-use Rattle.session_rules.proofs.Tests.{long-enough, Passed}
+use Rattle.session_rules.specs.Rules.{keepsSession, longestReply, stepRefusal}
+use Rattle.session_rules.proofs.Tests.{long-enough, number-none, Passed}
 use Rattle.session.specs.Calls.{Outcome, refused, made, stored, went, stepOf, openOf, openReply}
 use Rattle.session.specs.declared.Intake.{Intake}
 use Rattle.session.specs.Runs.{turnOf, outOf, spoken}
@@ -32,7 +31,7 @@ module _ (s : Session) (piece pl : List ℕ) (room : ℕ) where
     module _ (m : s .mode ≡ 3 → ⊥) where
       pub step-goes : (length pl <? longestPayload or room <? longestReply) ≡ false → stepOf s piece pl room ≡ went s piece pl (run feed nothing 0 s piece)
       unfolding stepOf
-      step-goes h = if-no _ _ _ (no-true _ e) ∙ if-no _ _ _ (ne-eqb _ _ m) ∙ if-no _ _ _ h
+      step-goes h = if-yes _ _ _ (eq-eqb _ _ (number-none s (length pl) room e m h))
 
 -- the three equations of a call's contract, from what it came to
 abbrev Comes : Outcome → answer.Record → List ℕ → List ℕ → List ℕ → Type 0
@@ -42,18 +41,12 @@ comes-as : (o x : Outcome) (r : answer.Record) (payload reply replyAfter : List 
 comes-as o x r payload reply replyAfter e k = (k .0 ∙ ap (λ (y : Outcome). y .answered) (sym e), k .1 ∙ ap (λ (y : Outcome). y .payload) (sym e), k .2 ∙ ap (λ (y : Outcome). front (y .reply) reply) (sym e))
 
 -- a refusal, by its number
-pub refusal : (s : Session) (piece pl reply after : List ℕ) (r : answer.Record) (n : ℕ) → n ≡ refusalOf s (length pl) (length reply) → 0 < n
+pub refusal : (s : Session) (piece pl reply after : List ℕ) (r : answer.Record) (n : ℕ) → n ≡ stepRefusal s (length pl) (length reply) → 0 < n
     → (r ≡ refused s [] n .answered) × (after ≡ reply) → Comes (stepOf s piece pl (length reply)) r pl reply after
-unfolding refusalOf stepOf
+unfolding stepOf
 refusal s piece pl reply after r n e h k =
-    comes-as (refused s pl n) (stepOf s piece pl (length reply)) r pl reply after (pick (words.no (keepsSession s)) (s .mode =? 3) (length pl <? longestPayload or length reply <? longestReply) e) (k .0, refl, k .1)
-  where
-    pick : (a b c : Bool) → n ≡ (if a then stateBroken else if b then sessionClosed else if c then bufferTooShort else 0)
-        → (if a then refused s pl stateBroken else if b then refused s pl sessionClosed else if c then refused s pl bufferTooShort else went s piece pl (run feed nothing 0 s piece)) ≡ refused s pl n
-    pick true b c f = ap (refused s pl) (sym f)
-    pick false true c f = ap (refused s pl) (sym f)
-    pick false false true f = ap (refused s pl) (sym f)
-    pick false false false f = absurd (omega (arith, f))
+    comes-as (refused s pl n) (stepOf s piece pl (length reply)) r pl reply after
+    (if-no _ _ _ (ne-eqb (stepRefusal s (length pl) (length reply)) 0 (λ (z : stepRefusal s (length pl) (length reply) ≡ 0). omega (arith, z, e, h))) ∙ ap (refused s pl) (sym e)) (k .0, refl, k .1)
 
 -- the piece was taken in, and what is due was said
 pub goes : (s : Session) (piece pl pl₁ reply after : List ℕ) (t : Intake) (r : answer.Record) → Passed s (length pl) (length reply) → run feed nothing 0 s piece ≡ outOf t

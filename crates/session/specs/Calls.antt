@@ -2,16 +2,16 @@
 use Prim.Native.Nat.{ℕ}
 use mathlib.Core.List.{List, []}
 use lib.ListN.{length, take}
-use Rattle.octets.specs.Words.{if_then_else_, _or_, no, _<?_, _=?_}
+use Rattle.octets.specs.Words.{if_then_else_, _<?_, _=?_}
 use Rattle.octets.specs.Bytes.{placed}
-use Rattle.refusals.specs.Numbers.{bufferTooShort, sessionClosed, stateBroken, longestPayload}
+use Rattle.refusals.specs.Numbers.{bufferTooShort}
 use Rattle.replies.specs.Replies.{prompt}
 use Rattle.machine.specs.Machine.{Out, run}
 use Rattle.talk.specs.declared.Session.{Session}
 use Rattle.talk.specs.Answer.{Happening}
 use Rattle.talk.specs.Sessions.{listening, closed}
 use Rattle.talk.specs.Talk.{nothing}
-use Rattle.session_rules.specs.Rules.{keepsSession, longestReply}
+use Rattle.session_rules.specs.Rules.{longestReply, stepRefusal}
 use Rattle.session.specs.Answer as answer
 use Rattle.session.specs.Feed.{feed}
 
@@ -40,13 +40,11 @@ stored s bytes pl = if s .mode =? 2 then placed bytes (s .got) pl else pl
 abbrev pub went : Session → List ℕ → List ℕ → Out Session Happening → Outcome
 went s piece pl o = record { answered = made o; payload = stored s (take (o .used) piece) pl; reply = o .reply }
 
--- 40, then 22, then 5; else the piece is fed up to the end of a line or of a payload
+-- where nothing refuses the call (session_rules, stepRefusal), the piece is fed up to the end of a line or of a payload
 unfoldable pub stepOf : Session → List ℕ → List ℕ → ℕ → Outcome
 stepOf s piece pl room =
-    if no (keepsSession s) then refused s pl stateBroken
-    else if s .mode =? 3 then refused s pl sessionClosed
-    else if length pl <? longestPayload or room <? longestReply then refused s pl bufferTooShort
-    else went s piece pl (run feed nothing 0 s piece)
+    if stepRefusal s (length pl) room =? 0 then went s piece pl (run feed nothing 0 s piece)
+    else refused s pl (stepRefusal s (length pl) room)
 
 -- opening writes the prompt
 unfoldable pub openOf : ℕ → answer.Opening

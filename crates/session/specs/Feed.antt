@@ -1,6 +1,6 @@
 -- Document 01, "The receiving session": what one byte from the peer does.
 use Prim.Native.Nat.{ℕ, _+_}
-use mathlib.Core.List.{List, []}
+use mathlib.Core.List.{[]}
 use lib.ListN.{set}
 use Rattle.octets.specs.Words.{if_then_else_, _<?_, _=?_}
 use Rattle.sha1.specs.Machine.{fed}

@@ -37,7 +37,7 @@ pub struct Opened {
 }
 
 // What a piece comes to before anything is said: the bytes used, what they came to, and the session that took them in.
-pub struct Intake {
+pub(crate) struct Intake {
     pub used: usize,
     pub stop: Stop,
     pub session: Session,

@@ -14,7 +14,7 @@ use Rattle.refusals.specs.Numbers.{bufferTooShort, sessionClosed, stateBroken, 
 use Rattle.field_rules.specs.Rules.{idIn}
 use Rattle.talk.specs.declared.Session.{Session}
 use Rattle.talk.specs.Sessions.{keepsTerms}
-use Rattle.session_rules.specs.Rules.{keepsLine, keepsPayload, keepsSession, longestReply, refusalOf}
+use Rattle.session_rules.specs.Rules.{keepsLine, keepsPayload, keepsSession, longestReply, stepRefusal}
 
 -- the longest line that a mode may have
 abbrev pub longest : ℕ → ℕ
@@ -117,22 +117,22 @@ long-enough n m e = let k = or-no (n <? longestPayload) (m <? longestReply) e in
 
 -- the number of a refusal, test by test
 module _ (s : Session) (payload room : ℕ) where
-  pub number-broken : keepsSession s ≡ false → refusalOf s payload room ≡ stateBroken
-  unfolding refusalOf
+  pub number-broken : keepsSession s ≡ false → stepRefusal s payload room ≡ stateBroken
+  unfolding stepRefusal
   number-broken e = if-yes _ _ _ (no-false _ e)
 
   module _ (e : keepsSession s ≡ true) where
-    pub number-closed : s .mode ≡ 3 → refusalOf s payload room ≡ sessionClosed
-    unfolding refusalOf
+    pub number-closed : s .mode ≡ 3 → stepRefusal s payload room ≡ sessionClosed
+    unfolding stepRefusal
     number-closed m = if-no _ _ _ (no-true _ e) ∙ if-yes _ _ _ (eq-eqb _ _ m)
 
     module _ (m : s .mode ≡ 3 → ⊥) where
-      pub number-short : (payload <? longestPayload or room <? longestReply) ≡ true → refusalOf s payload room ≡ bufferTooShort
-      unfolding refusalOf
+      pub number-short : (payload <? longestPayload or room <? longestReply) ≡ true → stepRefusal s payload room ≡ bufferTooShort
+      unfolding stepRefusal
       number-short h = if-no _ _ _ (no-true _ e) ∙ if-no _ _ _ (ne-eqb _ _ m) ∙ if-yes _ _ _ h
 
-      pub number-none : (payload <? longestPayload or room <? longestReply) ≡ false → refusalOf s payload room ≡ 0
-      unfolding refusalOf
+      pub number-none : (payload <? longestPayload or room <? longestReply) ≡ false → stepRefusal s payload room ≡ 0
+      unfolding stepRefusal
       number-none h = if-no _ _ _ (no-true _ e) ∙ if-no _ _ _ (ne-eqb _ _ m) ∙ if-no _ _ _ h
 
 -- none: the rules are kept, the session is not closed, and both buffers are long enough
@@ -141,8 +141,8 @@ pub record Passed (s : Session) (payload room : ℕ) : Type 0 where
   pub going : s .mode ≡ 3 → ⊥
   pub long : (payload <? longestPayload or room <? longestReply) ≡ false
 
-pub passed : (s : Session) (payload room n : ℕ) → n ≡ refusalOf s payload room → n ≤ 0 → Passed s payload room
-unfolding refusalOf
+pub passed : (s : Session) (payload room n : ℕ) → n ≡ stepRefusal s payload room → n ≤ 0 → Passed s payload room
+unfolding stepRefusal
 passed s payload room n e h = go (keepsSession s) (s .mode =? 3) (payload <? longestPayload or room <? longestReply) refl refl refl e
   where
     go : (a b c : Bool) → keepsSession s ≡ a → (s .mode =? 3) ≡ b → (payload <? longestPayload or room <? longestReply) ≡ c

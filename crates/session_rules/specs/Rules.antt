@@ -25,8 +25,8 @@ abbrev pub longestReply : ℕ
 longestReply = 24
 
 -- the number of a refusal, 0 where there is none: 40, then 22, then 5
-unfoldable pub refusalOf : Session → ℕ → ℕ → ℕ
-refusalOf s payload room =
+unfoldable pub stepRefusal : Session → ℕ → ℕ → ℕ
+stepRefusal s payload room =
     if no (keepsSession s) then stateBroken
     else if s .mode =? 3 then sessionClosed
     else if payload <? longestPayload or room <? longestReply then bufferTooShort

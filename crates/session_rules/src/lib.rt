@@ -1,7 +1,7 @@
 // Document 01, "The receiving session": what a call tests before it feeds a piece: the rules of a session (40), whether it is closed (22), and
 // the lent buffers (5).
 ghost use mathlib.Core.Path.{_≡_};
-ghost use Rattle.session_rules.specs.Rules.{refusalOf};
+ghost use Rattle.session_rules.specs.Rules.{stepRefusal};
 
 mod rules;
 
@@ -12,7 +12,7 @@ pub const LONGEST_REPLY: usize = 24;
 
 // The number of a refusal, 0 where there is none: 40, then 22, then 5.
 pub fn refusal(s: Session, payload: usize, reply: usize) -> u8
-    ensures { λ r. ⌜ r ≡ refusalOf s payload reply ⌝ }
+    ensures { λ r. ⌜ r ≡ stepRefusal s payload reply ⌝ }
 {
     if !rules::keep_rules(s) {
         return refusals::STATE_BROKEN;

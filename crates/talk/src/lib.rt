@@ -61,7 +61,7 @@ pub enum Stop {
 }
 
 // What is due: the reply, what happened with the fields of its line, and the session after it.
-pub struct Due {
+pub(crate) struct Due {
     pub reply: Reply,
     pub event: Event,
     pub line: Line,
