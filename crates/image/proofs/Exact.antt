@@ -17,7 +17,7 @@ use Rattle.slots.specs.declared.Slot.{Slot}
 use Rattle.streams.specs.declared.Table.{Table}
 use Rattle.streams.specs.Table.{keepsTable}
 use Rattle.streams.proofs.Lookups.{kept}
-use Rattle.image.specs.Image.{endRecord, recordsFrom, rowCount, imageOf, slotsFrom, ended, tableOf}
+use Rattle.image.specs.Image.{endRecord, recordsFrom, openCount, imageOf, slotsFrom, ended, tableOf}
 use Rattle.image.proofs.Rows.{rows-back, rows-forth}
 
 pub saved-read : (t : Table) → keepsTable t ≡ true → tableOf (imageOf t) ≡ some t
@@ -25,9 +25,9 @@ unfolding imageOf tableOf
 saved-read t e =
     let k = kept t e in
     let l = t .slots in
-    let s = recordsFrom 0 l ++ endRecord (rowCount l) in
-    let b : slotsFrom 32 0 s ≡ got l (length (recordsFrom 0 l)) = ap (λ (n : ℕ). slotsFrom n 0 s) (sym (k .long)) ∙ rows-back l 0 (rowCount l) (k .each) in
-    ap (ended s) b ∙ rw (drop-append-seam (recordsFrom 0 l) (endRecord (rowCount l)), same-refl (endRecord (rowCount l)), e)
+    let s = recordsFrom 0 l ++ endRecord (openCount l) in
+    let b : slotsFrom 32 0 s ≡ got l (length (recordsFrom 0 l)) = ap (λ (n : ℕ). slotsFrom n 0 s) (sym (k .long)) ∙ rows-back l 0 (openCount l) (k .each) in
+    ap (ended s) b ∙ rw (drop-append-seam (recordsFrom 0 l) (endRecord (openCount l)), same-refl (endRecord (openCount l)), e)
 
 pub record Read (s : List ℕ) (t : Table) : Type 0 where
   pub keeps : keepsTable t ≡ true
@@ -42,11 +42,11 @@ unfolding imageOf
 read-by s t bad p hs e = let z : _≡_ {A = ℕ} 0 1 = cc in absurd (omega arith)
 read-by s t (got l n) p hs e =
     let u : Table = record { slots = l } in
-    let c = chosen (same (drop n s) (endRecord (rowCount l)) and keepsTable u) u t e in
-    let m = same-eq (drop n s) (endRecord (rowCount l)) (and-left _ _ (c .0)) in
+    let c = chosen (same (drop n s) (endRecord (openCount l)) and keepsTable u) u t e in
+    let m = same-eq (drop n s) (endRecord (openCount l)) (and-left _ _ (c .0)) in
     subst (Read s) (c .1)
     (record {
-      keeps = and-right (same (drop n s) (endRecord (rowCount l))) _ (c .0);
+      keeps = and-right (same (drop n s) (endRecord (openCount l))) _ (c .0);
       is = sym (rows-forth 32 0 s l n hs p ∙ ap (λ (w : List ℕ). recordsFrom 0 l ++ w) m);
     })
 

@@ -16,17 +16,17 @@ use Rattle.slots.specs.declared.Slot.{Slot}
 use Rattle.streams.specs.declared.Table.{Table}
 use Rattle.streams.specs.Table.{keepsTable}
 use Rattle.image.specs.Answer.{written, unwritten, SaveOutcome}
-use Rattle.image.specs.Image.{endRecord, rowCount, slotsFrom, ended, tableOf, saveOf, loadOf}
+use Rattle.image.specs.Image.{endRecord, openCount, slotsFrom, ended, tableOf, saveOf, loadOf}
 use Rattle.image.proofs.Cases.{by-save, by-load}
 
 kept-by : (s : List ℕ) (t : Table) (y : Res (List Slot)) → ended s y ≡ some t → keepsTable t ≡ true
 kept-by s t bad e = let z : _≡_ {A = ℕ} 0 1 = cc in absurd (omega arith)
-kept-by s t (got l n) e = go (same (drop n s) (endRecord (rowCount l)) and keepsTable (record { slots = l })) refl e
+kept-by s t (got l n) e = go (same (drop n s) (endRecord (openCount l)) and keepsTable (record { slots = l })) refl e
   where
-    go : (b : Bool) → same (drop n s) (endRecord (rowCount l)) and keepsTable (record { slots = l }) ≡ b → (if b then some (record { slots = l }) else none) ≡ some t → keepsTable t ≡ true
+    go : (b : Bool) → same (drop n s) (endRecord (openCount l)) and keepsTable (record { slots = l }) ≡ b → (if b then some (record { slots = l }) else none) ≡ some t → keepsTable t ≡ true
     go true p e =
         let f : _≡_ {A = Table} (record { slots = l }) t = cc in
-        ap keepsTable (sym f) ∙ and-right (same (drop n s) (endRecord (rowCount l))) _ p
+        ap keepsTable (sym f) ∙ and-right (same (drop n s) (endRecord (openCount l))) _ p
     go false p e = let z : _≡_ {A = ℕ} 0 1 = cc in absurd (omega arith)
 
 -- a table that was read keeps the rules

@@ -18,34 +18,34 @@ use Rattle.streams.specs.declared.Table.{Table}
 use Rattle.streams.specs.declared.Count.{Count}
 use Rattle.streams.specs.Answer.{Counted, counted, uncounted, countSays}
 use Rattle.streams.specs.Calls as calls
-use Rattle.streams.specs.Table.{keepsTable, keepsSlots, count}
+use Rattle.streams.specs.Table.{keepsTable, keepsSlots}
 use Rattle.streams.proofs.Lookups.{kept}
 use Rattle.image_rows.specs.declared.RowsRead.{RowsRead}
 use Rattle.image_rows.specs.Steps.{rowsRead, noRows}
 use Rattle.image_rows.proofs.Reading.{from, rest, slot-takes}
-use Rattle.image.specs.Image.{endRecord, rowCount, slotFrom, slotsFrom, ended, tableOf, replaced, loadOf}
+use Rattle.image.specs.Image.{endRecord, openCount, slotFrom, slotsFrom, ended, tableOf, replaced, loadOf}
 
 -- ---- what counting the open rows says of a table
 
-count-most : (l : List Slot) → count (λ x. x .used) l ≤ length l
+count-most : (l : List Slot) → openCount l ≤ length l
 count-most [] = omega arith
 count-most (x ∷ l) = go (x .used) (count-most l)
   where
-    go : (b : Bool) → count (λ x. x .used) l ≤ length l → (if b then 1 else 0) + count (λ x. x .used) l ≤ suc (length l)
+    go : (b : Bool) → openCount l ≤ length l → (if b then 1 else 0) + openCount l ≤ suc (length l)
     go true h = omega arith
     go false h = omega arith
 
 pub record Rules (t : Table) (n : ℕ) : Type 0 where
   pub keeps : keepsTable t ≡ true
-  pub rows : n ≡ rowCount (t .slots)
+  pub rows : n ≡ openCount (t .slots)
   pub few : n ≤ 32
 
 module _ (t : Table) where
-  by-count : (P : Counted → Type 0) → (keepsTable t ≡ false → P (uncounted stateBroken)) → (keepsTable t ≡ true → P (counted (rowCount (t .slots)))) → P (calls.openRows t)
+  by-count : (P : Counted → Type 0) → (keepsTable t ≡ false → P (uncounted stateBroken)) → (keepsTable t ≡ true → P (counted (openCount (t .slots)))) → P (calls.openRows t)
   unfolding calls.openRows
   by-count P a b = go (keepsTable t) refl
     where
-      go : (k : Bool) → keepsTable t ≡ k → P (if no k then uncounted stateBroken else counted (rowCount (t .slots)))
+      go : (k : Bool) → keepsTable t ≡ k → P (if no k then uncounted stateBroken else counted (openCount (t .slots)))
       go false e = a e
       go true e = b e
 
@@ -56,9 +56,9 @@ module _ (t : Table) where
         not-counted : {A : Type 0} {m : ℕ} → counted n ≡ uncounted m → A
         not-counted q = let z : _≡_ {A = ℕ} 0 1 = cc in absurd (omega arith)
 
-        kept-rows : keepsTable t ≡ true → counted n ≡ counted (rowCount (t .slots)) → Rules t n
+        kept-rows : keepsTable t ≡ true → counted n ≡ counted (openCount (t .slots)) → Rules t n
         kept-rows k q =
-            let z : n ≡ rowCount (t .slots) = cc in
+            let z : n ≡ openCount (t .slots) = cc in
             record { keeps = k; rows = z; few = omega (arith, count-most (t .slots), kept t k .long) }
 
     pub no-rules : (n : ℕ) → c ≡ Count.Refused n → keepsTable t ≡ false
@@ -74,17 +74,17 @@ rows-missed s bad r e g = refl
 rows-missed s (got l n) r e g = go (keepsSlots l) refl (ap (λ (q : RowsRead). q .good) e)
   where
     go : (b : Bool) → keepsSlots l ≡ b
-        → r .good ≡ (if_then_else_ {A = RowsRead} b (record { good = true; used = n; rows = rowCount l; table = record { slots = l } }) noRows) .good
+        → r .good ≡ (if_then_else_ {A = RowsRead} b (record { good = true; used = n; rows = openCount l; table = record { slots = l } }) noRows) .good
         → ended s (got l n) ≡ none
     go true k q = true-not-false (r .good) q g
-    go false k q = if-no _ _ _ (and-not-right (same (drop n s) (endRecord (rowCount l))) _ k)
+    go false k q = if-no _ _ _ (and-not-right (same (drop n s) (endRecord (openCount l))) _ k)
 
 rows-found : (x : Res (List Slot)) (r : RowsRead) → r ≡ rowsRead x → r .good ≡ true → (x ≡ got (r .table .slots) (r .used)) × Rules (r .table) (r .rows)
 rows-found bad r e g = let z : _≡_ {A = ℕ} 0 1 = cc in absurd (omega arith)
 rows-found (got l n) r e g = go (keepsSlots l) refl e
   where
     read : RowsRead
-    read = record { good = true; used = n; rows = rowCount l; table = record { slots = l } }
+    read = record { good = true; used = n; rows = openCount l; table = record { slots = l } }
 
     is : keepsTable (record { slots = l }) ≡ true → (got l n ≡ got (read .table .slots) (read .used)) × Rules (read .table) (read .rows)
     is k = (refl, record { keeps = k; rows = refl; few = omega (arith, count-most l, kept (record { slots = l }) k .long) })
@@ -122,15 +122,15 @@ module _ (t : Table) (s : List ℕ) where
       load-room = rows-take 32 0 s (r .table .slots) (r .used) read
 
       abbrev good : Bool
-      good = same (drop (r .used) s) (endRecord (rowCount (r .table .slots))) and keepsTable (r .table)
+      good = same (drop (r .used) s) (endRecord (openCount (r .table .slots))) and keepsTable (r .table)
 
       load-by : loadOf t s ≡ replaced t (if good then some (r .table) else none)
       unfolding loadOf tableOf
       load-by = if-no _ _ _ (no-true _ k) ∙ ap (λ (x : Res (List Slot)). replaced t (ended s x)) read
 
       module _ (b : Bool) (eb : b ≡ same (from (r .used) s) (endRecord (r .rows))) where
-        end-is : same (drop (r .used) s) (endRecord (rowCount (r .table .slots))) ≡ b
-        end-is = ap (λ (l : List ℕ). same l (endRecord (rowCount (r .table .slots)))) (sym (rest (r .used) s)) ∙ ap (λ (m : ℕ). same (from (r .used) s) (endRecord m)) (sym (load-rules .rows)) ∙ sym eb
+        end-is : same (drop (r .used) s) (endRecord (openCount (r .table .slots))) ≡ b
+        end-is = ap (λ (l : List ℕ). same l (endRecord (openCount (r .table .slots)))) (sym (rest (r .used) s)) ∙ ap (λ (m : ℕ). same (from (r .used) s) (endRecord m)) (sym (load-rules .rows)) ∙ sym eb
 
         pub load-end : b ≡ false → refuse noSavedImage t ≡ loadOf t s
         load-end e = sym (load-by ∙ ap (replaced t) (if-no _ _ _ (and-not-left _ (keepsTable (r .table)) (end-is ∙ e))))

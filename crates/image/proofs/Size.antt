@@ -14,7 +14,7 @@ use Rattle.streams.specs.Table.{freeSlot, keepsSlot, keepsTable}
 use Rattle.streams.proofs.Lookups.{kept}
 use Rattle.records.specs.Record.{body}
 use Rattle.records.proofs.Laws.{body-most}
-use Rattle.image.specs.Image.{rowMark, endRecord, recordOf, recordsFrom, rowCount, imageOf}
+use Rattle.image.specs.Image.{rowMark, endRecord, recordOf, recordsFrom, openCount, imageOf}
 use Rattle.image.proofs.Rows.{Open, open-or-free}
 
 -- a row's record has at most 481
@@ -34,7 +34,7 @@ records-most i (x ∷ l) e =
 
 pub image-size : (t : Table) → length (imageOf t) ≡ 3 + length (recordsFrom 0 (t .slots))
 unfolding imageOf
-image-size t = length-append (recordsFrom 0 (t .slots)) (endRecord (rowCount (t .slots))) ∙ (omega arith)
+image-size t = length-append (recordsFrom 0 (t .slots)) (endRecord (openCount (t .slots))) ∙ (omega arith)
 
 pub image-most : (t : Table) → keepsTable t ≡ true → length (imageOf t) ≤ 15395
 image-most t e = let k = kept t e in omega (arith, image-size t, records-most 0 (t .slots) (k .each), k .long)

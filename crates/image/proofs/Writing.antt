@@ -19,7 +19,7 @@ use Rattle.streams.proofs.Lookups.{kept}
 use Rattle.records.specs.Record.{body}
 use Rattle.recorder.proofs.Behind.{placed-then, behind}
 use Rattle.image.specs.Answer.{written, SaveOutcome, unsaved}
-use Rattle.image.specs.Image.{rowMark, endRecord, recordOf, recordsFrom, rowCount, imageOf, saveOf}
+use Rattle.image.specs.Image.{rowMark, endRecord, recordOf, recordsFrom, openCount, imageOf, saveOf}
 use Rattle.image.proofs.Size.{image-size}
 
 -- ---- one record
@@ -113,13 +113,13 @@ module _ (t : Table) (out : List ℕ) where
     unfolding saveOf
     save-short h = sym (if-no _ _ _ (no-true _ k) ∙ if-yes _ _ _ (lt-ltb (length out) (length (imageOf t)) (omega (arith, image-size t))))
 
-    pub save-done : (n : ℕ) (x y : List ℕ) → n ≡ rowCount (t .slots) → size + 3 ≤ length out → x ≡ placed (recordsFrom 0 (t .slots)) 0 out → y ≡ placed (endRecord n) size x
+    pub save-done : (n : ℕ) (x y : List ℕ) → n ≡ openCount (t .slots) → size + 3 ≤ length out → x ≡ placed (recordsFrom 0 (t .slots)) 0 out → y ≡ placed (endRecord n) size x
         → _≡_ {A = SaveOutcome} (record { answer = written (size + 3); buffer = y }) (saveOf t out)
     unfolding saveOf imageOf
     save-done n x y en h p q =
         let z : size + 3 ≡ length (imageOf t) = omega (arith, image-size t) in
-        let i = recordsFrom 0 (t .slots) ++ endRecord (rowCount (t .slots)) in
+        let i = recordsFrom 0 (t .slots) ++ endRecord (openCount (t .slots)) in
         let b : y ≡ placed i 0 out =
-        behind (recordsFrom 0 (t .slots)) (endRecord (rowCount (t .slots))) 0 size out x y p (q ∙ ap (λ (m : ℕ). placed (endRecord m) size x) en) (omega arith) (omega arith) in
+        behind (recordsFrom 0 (t .slots)) (endRecord (openCount (t .slots))) 0 size out x y p (q ∙ ap (λ (m : ℕ). placed (endRecord m) size x) en) (omega arith) (omega arith) in
         let w : y ≡ front i out = b ∙ copied i out (omega (arith, image-size t)) in
         sym (if-no _ _ _ (no-true _ k) ∙ if-no _ _ _ (le-ltb (length out) (length (imageOf t)) (omega arith)) ∙ λ j. record { answer = written (sym z j); buffer = sym w j })

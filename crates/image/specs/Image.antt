@@ -10,9 +10,10 @@ use Rattle.refusals.specs.Numbers.{stateBroken, bufferTooShort, noSavedImage}
 use Rattle.rows.specs.Answer.{accepted, Outcome, refuse}
 use Rattle.slots.specs.declared.Slot.{Slot}
 use Rattle.streams.specs.declared.Table.{Table}
-use Rattle.streams.specs.Table.{keepsTable, count}
+use Rattle.streams.specs.Table.{keepsTable}
 use Rattle.records.specs.Record.{body}
 use Rattle.image.specs.Answer.{written, SaveOutcome, unsaved}
+pub use Rattle.streams.specs.Table.{openCount}
 pub use Rattle.image_rows.specs.Rows.{rowMark, openSlot, slotFrom, slotsFrom}
 
 -- ---- the image
@@ -30,13 +31,9 @@ abbrev pub recordsFrom : ℕ → List Slot → List ℕ
 recordsFrom i [] = []
 recordsFrom i (x ∷ rest) = recordOf i x ++ recordsFrom (i + 1) rest
 
--- how many rows are open
-abbrev pub rowCount : List Slot → ℕ
-rowCount = count (λ x. x .used)
-
 -- THE IMAGE of a table: for each open row, in row order, its record; last, the end record
 unfoldable pub imageOf : Table → List ℕ
-imageOf t = recordsFrom 0 (t .slots) ++ endRecord (rowCount (t .slots))
+imageOf t = recordsFrom 0 (t .slots) ++ endRecord (openCount (t .slots))
 
 -- ---- what an image says
 
@@ -44,7 +41,7 @@ imageOf t = recordsFrom 0 (t .slots) ++ endRecord (rowCount (t .slots))
 abbrev pub ended : List ℕ → Res (List Slot) → Option Table
 ended s bad = none
 ended s (got rows n) =
-    if same (drop n s) (endRecord (rowCount rows)) and keepsTable (record { slots = rows }) then some (record { slots = rows }) else none
+    if same (drop n s) (endRecord (openCount rows)) and keepsTable (record { slots = rows }) then some (record { slots = rows }) else none
 
 -- the table whose image it is, if there is one
 unfoldable pub tableOf : List ℕ → Option Table

@@ -16,8 +16,8 @@ use Rattle.keys.specs.declared.Key.{Key}
 use Rattle.rows.specs.declared.Row.{Row}
 use Rattle.slots.specs.declared.Slot.{Slot}
 use Rattle.slot_rules.specs.declared.Ruled.{Ruled}
-use Rattle.slot_rules.specs.Slots.{numberOf, broken, testOf}
-use Rattle.streams.specs.Table.{freeSlot, isFree, hasKey, keepsSlots, first, count}
+use Rattle.slot_rules.specs.Slots.{placeNumber, broken, testOf}
+use Rattle.streams.specs.Table.{freeSlot, isFree, hasKey, keepsSlots, first, openCount}
 use Rattle.records.specs.declared.Reading.{Reading}
 use Rattle.records.specs.Record.{body, readingOf}
 use Rattle.records.proofs.Laws.{body-laws}
@@ -145,7 +145,7 @@ module _ (l : List Slot) (n : ℕ) (k : Key) (r : Ruled) (e : r ≡ testOf l k) 
   unfolding testOf
   is-kept = rw e (go (keepsSlots l))
     where
-      go : (b : Bool) → (if_then_else_ {A = Ruled} (no b) broken (record { good = true; found = numberOf (first (hasKey k) 0 l); free = numberOf (first isFree 0 l); rows = count (λ x. x .used) l })) .good ≡ b
+      go : (b : Bool) → (if_then_else_ {A = Ruled} (no b) broken (record { good = true; found = placeNumber (first (hasKey k) 0 l); free = placeNumber (first isFree 0 l); rows = openCount l })) .good ≡ b
       go true = refl
       go false = refl
 
@@ -156,5 +156,5 @@ module _ (l : List Slot) (n : ℕ) (k : Key) (r : Ruled) (e : r ≡ testOf l k) 
   unfolding testOf
   rules-kept g =
       let f = sym is-kept ∙ g in
-      let c : r .rows ≡ count (λ x. x .used) l = rw (e, f) in
+      let c : r .rows ≡ openCount l = rw (e, f) in
       ap {B = RowsRead} (λ (m : ℕ). record { good = true; used = n; rows = m; table = record { slots = l } }) c ∙ sym (if-yes _ _ _ f)

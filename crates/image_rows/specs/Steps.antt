@@ -4,7 +4,7 @@ use mathlib.Core.List.{List}
 use Rattle.octets.specs.Words.{if_then_else_}
 use Rattle.octets.specs.Field.{Res, bad, got}
 use Rattle.slots.specs.declared.Slot.{Slot}
-use Rattle.streams.specs.Table.{freeSlot, keepsSlots, count, empty}
+use Rattle.streams.specs.Table.{freeSlot, keepsSlots, openCount, empty}
 use Rattle.image_rows.specs.declared.walk.SlotRead.{SlotRead}
 use Rattle.image_rows.specs.declared.RowsRead.{RowsRead}
 
@@ -18,4 +18,4 @@ noRows = record { good = false; used = 0; rows = 0; table = empty }
 -- the rows of a table that keeps the rules, distinct keys among them
 abbrev pub rowsRead : Res (List Slot) → RowsRead
 rowsRead bad = noRows
-rowsRead (got l n) = if keepsSlots l then record { good = true; used = n; rows = count (λ x. x .used) l; table = record { slots = l } } else noRows
+rowsRead (got l n) = if keepsSlots l then record { good = true; used = n; rows = openCount l; table = record { slots = l } } else noRows

@@ -12,7 +12,7 @@ use Rattle.octets.proofs.Lists.{drop-next}
 use Rattle.keys.specs.declared.Key.{Key}
 use Rattle.slots.specs.declared.Slot.{Slot}
 use Rattle.slot_rules.specs.declared.Ruled.{Ruled}
-use Rattle.slot_rules.specs.Slots.{Found, hasKey, isFree, keepsSlots, first, count, slotIn, pastSlot, numberOf, broken, testOf}
+use Rattle.slot_rules.specs.Slots.{Found, hasKey, isFree, keepsSlots, first, openCount, slotIn, pastSlot, placeNumber, broken, testOf}
 use Rattle.slot_rules.specs.Steps.{seenAt, foundOr, Seen}
 
 -- a place more was looked at
@@ -36,10 +36,10 @@ module _ (p : Slot → Bool) (l : List Slot) (found i : ℕ) (h : i < length l) 
       turn = rw (drop-next l i pastSlot h) (go (found <? 32) (p (slotIn l i)) refl)
 
 -- all were looked at
-pub seen-end : (p : Slot → Bool) (l : List Slot) (found i : ℕ) → length l ≤ i → Seen p l found i → found ≡ numberOf (first p 0 l)
-seen-end p l found i h w = sym (ap numberOf (w .1 ∙ ap (λ (r : List Slot). foundOr found (first p i r)) (drop-of-length-le l {i = i} h)) ∙ go (found <? 32) refl)
+pub seen-end : (p : Slot → Bool) (l : List Slot) (found i : ℕ) → length l ≤ i → Seen p l found i → found ≡ placeNumber (first p 0 l)
+seen-end p l found i h w = sym (ap placeNumber (w .1 ∙ ap (λ (r : List Slot). foundOr found (first p i r)) (drop-of-length-le l {i = i} h)) ∙ go (found <? 32) refl)
   where
-    go : (a : Bool) → (found <? 32) ≡ a → numberOf (if a then Found.At found else Found.Nothing) ≡ found
+    go : (a : Bool) → (found <? 32) ≡ a → placeNumber (if a then Found.At found else Found.Nothing) ≡ found
     go true e = refl
     go false e = let z = ltb-false found 32 e in omega (arith, w .0)
 
@@ -50,7 +50,7 @@ module _ (l : List Slot) (k : Key) where
   unfolding testOf
   test-broken r e f = e ∙ sym (if-yes _ _ _ (no-false _ f))
 
-  pub test-good : (found free rows : ℕ) → keepsSlots l ≡ true → found ≡ numberOf (first (hasKey k) 0 l) → free ≡ numberOf (first isFree 0 l) → rows ≡ count (λ x. x .used) l
+  pub test-good : (found free rows : ℕ) → keepsSlots l ≡ true → found ≡ placeNumber (first (hasKey k) 0 l) → free ≡ placeNumber (first isFree 0 l) → rows ≡ openCount l
       → _≡_ {A = Ruled} (record { good = true; found = found; free = free; rows = rows }) (testOf l k)
   unfolding testOf
   test-good found free rows e a b c = rw (a, b, c) (sym (if-no _ _ _ (no-true _ e)))

@@ -9,13 +9,13 @@ use Rattle.octets.specs.Words.{if_then_else_}
 use Rattle.octets.proofs.Tests.{and-not-left, and-next, no-true, no-false}
 use Rattle.octets.proofs.Lists.{drop-next}
 use Rattle.slots.specs.declared.Slot.{Slot}
-use Rattle.slot_rules.specs.Slots.{Found, twice, distinct, first, count}
+use Rattle.slot_rules.specs.Slots.{Found, twice, distinct, first, openCount}
 
 -- ---- a turn of a loop
 
 module _ (l : List Slot) (i : ℕ) (d : Slot) (h : i < length l) where
-  pub count-next : (p : Slot → Bool) → count p (drop i l) ≡ (if p (getD l i d) then 1 else 0) + count p (drop (i + 1) l)
-  count-next p = rw (drop-next l i d h)
+  pub count-next : openCount (drop i l) ≡ (if getD l i d .used then 1 else 0) + openCount (drop (i + 1) l)
+  count-next = rw (drop-next l i d h)
 
   pub distinct-not : twice (getD l i d) (drop (i + 1) l) ≡ true → distinct (drop i l) ≡ false
   distinct-not e = rw (drop-next l i d h) (and-not-left _ _ (no-true _ e))

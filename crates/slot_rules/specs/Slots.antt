@@ -37,10 +37,10 @@ abbrev pub first : (Slot → Bool) → ℕ → List Slot → Found
 first p n [] = Found.Nothing
 first p n (x ∷ rest) = if p x then Found.At n else first p (n + 1) rest
 
--- how many pass the test
-abbrev pub count : (Slot → Bool) → List Slot → ℕ
-count p [] = 0
-count p (x ∷ rest) = (if p x then 1 else 0) + count p rest
+-- how many are open
+abbrev pub openCount : List Slot → ℕ
+openCount [] = 0
+openCount (x ∷ rest) = (if x .used then 1 else 0) + openCount rest
 
 abbrev pub slotIn : List Slot → ℕ → Slot
 slotIn l i = getD l i pastSlot
@@ -48,9 +48,9 @@ slotIn l i = getD l i pastSlot
 -- ---- what a pass over the slots finds
 
 -- its number, 32 for none
-abbrev pub numberOf : Found → ℕ
-numberOf (Found.At i) = i
-numberOf Found.Nothing = 32
+abbrev pub placeNumber : Found → ℕ
+placeNumber (Found.At i) = i
+placeNumber Found.Nothing = 32
 
 abbrev pub broken : Ruled
 broken = record { good = false; found = 32; free = 32; rows = 0 }
@@ -58,4 +58,4 @@ broken = record { good = false; found = 32; free = 32; rows = 0 }
 unfoldable pub testOf : List Slot → Key → Ruled
 testOf l k =
     if no (keepsSlots l) then broken
-    else record { good = true; found = numberOf (first (hasKey k) 0 l); free = numberOf (first isFree 0 l); rows = count (λ x. x .used) l }
+    else record { good = true; found = placeNumber (first (hasKey k) 0 l); free = placeNumber (first isFree 0 l); rows = openCount l }

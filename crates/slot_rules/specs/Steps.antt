@@ -3,7 +3,7 @@ use Prim.Native.Nat.{ℕ, _+_, _<_, _≤_}
 use mathlib.Core.Path.{_≡_}
 use mathlib.Core.Bool.{Bool}
 use mathlib.Core.List.{List}
-use lib.ListN.{length, getD, drop}
+use lib.ListN.{getD, drop}
 use Rattle.octets.specs.Words.{if_then_else_, _<?_}
 use Rattle.keys.specs.Key.{streamIdOf, markOf}
 use Rattle.slots.specs.declared.Slot.{Slot}

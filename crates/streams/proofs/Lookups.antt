@@ -20,13 +20,13 @@ use Rattle.rows.specs.Row.{rowOf, offerOf}
 use Rattle.slots.specs.declared.Slot.{Slot}
 use Rattle.slots.specs.Slot.{slotFor}
 use Rattle.slot_rules.specs.declared.Ruled.{Ruled}
-use Rattle.slot_rules.specs.Slots.{numberOf, broken, testOf}
+use Rattle.slot_rules.specs.Slots.{placeNumber, broken, testOf}
 use Rattle.lookups.specs.declared.Target.{Target}
 use Rattle.lookups.specs.Lookup.{standingOf, knownTarget, offerTarget}
 use Rattle.streams.specs.declared.Table.{Table}
 use Rattle.slot_rules.specs.Slots.{Found}
 use Rattle.lookups.specs.declared.Lookup.{Lookup}
-use Rattle.streams.specs.Table.{isFree, keepsSlot, hasKey, distinct, keepsTable, keepsSlots, first, count, slotAt, withSlot, freeSlot}
+use Rattle.streams.specs.Table.{isFree, keepsSlot, hasKey, distinct, keepsTable, keepsSlots, first, openCount, slotAt, withSlot, freeSlot}
 use Rattle.streams.specs.Calls.{place, lookUp, onRow, opens, offerBy, offer, takeBy, take, forceBy, force, closeBy, close}
 use Rattle.slot_rules.proofs.Search.{first-bound}
 use Rattle.streams.proofs.Places.{place-at, first-place, used-key, not-free}
@@ -89,12 +89,12 @@ module _ (t : Table) (named : Named) where
       f : Found
       f = first (hasKey (named .key)) 0 (t .slots)
 
-      at : keepsTable t ≡ true → (x : Found) → x ≡ f → (if numberOf x <? 32 then Lookup.Open (numberOf x) else Lookup.Unknown) ≡ place x
+      at : keepsTable t ≡ true → (x : Found) → x ≡ f → (if placeNumber x <? 32 then Lookup.Open (placeNumber x) else Lookup.Unknown) ≡ place x
       at k (Found.At i) q = if-yes _ _ _ (lt-ltb i 32 (omega (arith, kept t k .long, first-bound (hasKey (named .key)) 0 i (t .slots) q)))
       at k Found.Nothing q = refl
 
       go : (b : Bool) → keepsTable t ≡ b
-          → (let r = if_then_else_ {A = Ruled} (no b) broken (record { good = true; found = numberOf f; free = numberOf (first isFree 0 (t .slots)); rows = count (λ x. x .used) (t .slots) }) in standingOf (r .good) (named .refusal) (r .found))
+          → (let r = if_then_else_ {A = Ruled} (no b) broken (record { good = true; found = placeNumber f; free = placeNumber (first isFree 0 (t .slots)); rows = openCount (t .slots) }) in standingOf (r .good) (named .refusal) (r .found))
           ≡ (if no b then Lookup.Refused stateBroken else if 0 <? named .refusal then Lookup.Refused (named .refusal) else place f)
       go false k = refl
       go true k = ap (λ (l : Lookup). if 0 <? named .refusal then Lookup.Refused (named .refusal) else l) (at k f refl)
@@ -130,7 +130,7 @@ module _ (t : Table) (named : Named) where
   -- ---- an offer, from its target
 
   abbrev pub freeAt : ℕ
-  freeAt = numberOf (first isFree 0 (t .slots))
+  freeAt = placeNumber (first isFree 0 (t .slots))
 
   pub offer-target : (r : Ruled) (number : ℕ) → r ≡ testOf (t .slots) (named .key)
       → offerTarget number (r .free) (standingOf (r .good) (named .refusal) (r .found)) ≡ offerTarget number freeAt (lookUp t named)
@@ -141,7 +141,7 @@ module _ (t : Table) (named : Named) where
       l = standingOf (r .good) (named .refusal) (r .found)
 
       is : (b : Bool) → Ruled
-      is b = if no b then broken else record { good = true; found = numberOf (first (hasKey (named .key)) 0 (t .slots)); free = freeAt; rows = count (λ x. x .used) (t .slots) }
+      is b = if no b then broken else record { good = true; found = placeNumber (first (hasKey (named .key)) 0 (t .slots)); free = freeAt; rows = openCount (t .slots) }
 
       go : (b : Bool) → keepsTable t ≡ b → offerTarget number (r .free) l ≡ offerTarget number freeAt (lookUp t named)
       go b k = free b (e ∙ ap is k) ∙ ap (offerTarget number freeAt) (look-is r e)
@@ -158,7 +158,7 @@ module _ (t : Table) (named : Named) where
     ends : length (t .slots) ≡ 32 → Ends (offerTarget (m .number) freeAt (lookUp t named)) (offerBy t k m time (lookUp t named))
     ends h = go (lookUp t named) stands
       where
-        into : (f : Found) → f ≡ first isFree 0 (t .slots) → Ends (if numberOf f <? 32 then Target.At (numberOf f) else Target.Refused noFreeRow) (opens t k (offerOf (rowOf fresh) m time) f)
+        into : (f : Found) → f ≡ first isFree 0 (t .slots) → Ends (if placeNumber f <? 32 then Target.At (placeNumber f) else Target.Refused noFreeRow) (opens t k (offerOf (rowOf fresh) m time) f)
         into (Found.At i) q =
             let p = place-at (first-place isFree i (t .slots) q) in
             let b : i < 32 = omega (arith, h, p .1) in
@@ -218,10 +218,10 @@ pub test-good : (t : Table) (k : Key) (r : Ruled) → r ≡ testOf (t .slots) k 
 unfolding testOf
 test-good t k r e = rw e (go (keepsTable t))
   where
-    go : (b : Bool) → (if_then_else_ {A = Ruled} (no b) broken (record { good = true; found = numberOf (first (hasKey k) 0 (t .slots)); free = numberOf (first isFree 0 (t .slots)); rows = count (λ x. x .used) (t .slots) })) .good ≡ b
+    go : (b : Bool) → (if_then_else_ {A = Ruled} (no b) broken (record { good = true; found = placeNumber (first (hasKey k) 0 (t .slots)); free = placeNumber (first isFree 0 (t .slots)); rows = openCount (t .slots) })) .good ≡ b
     go true = refl
     go false = refl
 
-pub test-rows : (t : Table) (k : Key) (r : Ruled) → r ≡ testOf (t .slots) k → keepsTable t ≡ true → r .rows ≡ count (λ x. x .used) (t .slots)
+pub test-rows : (t : Table) (k : Key) (r : Ruled) → r ≡ testOf (t .slots) k → keepsTable t ≡ true → r .rows ≡ openCount (t .slots)
 unfolding testOf
 test-rows t k r e g = rw (e, g)

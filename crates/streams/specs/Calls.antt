@@ -15,7 +15,7 @@ use Rattle.rows.specs.Row.{rowOf, noRow, offerOf, takeOf, forceOf}
 use Rattle.streams.specs.declared.Table.{Table}
 use Rattle.lookups.specs.declared.Lookup.{Lookup}
 use Rattle.streams.specs.Answer.{Counted, counted, uncounted, Sight}
-use Rattle.streams.specs.Table.{freeSlot, isFree, hasKey, keepsTable, Found, first, count, slotAt, withSlot}
+use Rattle.streams.specs.Table.{freeSlot, isFree, hasKey, keepsTable, Found, first, openCount, slotAt, withSlot}
 
 -- ---- what stands for a key
 
@@ -80,7 +80,7 @@ close t originator id = closeBy t (lookUp t (namedOf originator id))
 
 -- how many rows are open
 unfoldable pub openRows : Table → Counted
-openRows t = if no (keepsTable t) then uncounted stateBroken else counted (count (λ x. x .used) (t .slots))
+openRows t = if no (keepsTable t) then uncounted stateBroken else counted (openCount (t .slots))
 
 -- row i with its key; a free row, or a number that no row has, is no such stream
 unfoldable pub rowAt : Table → ℕ → Sight

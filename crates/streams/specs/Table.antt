@@ -1,10 +1,10 @@
 -- Document 01, "Streams": 32 rows by key. The rules that a table keeps (40), and its slots.
 use Prim.Native.Nat.{ℕ}
 use mathlib.Core.Bool.{Bool}
-use lib.ListN.{getD, set, replicate}
+use lib.ListN.{set, replicate}
 use Rattle.slots.specs.declared.Slot.{Slot}
 pub use Rattle.slots.specs.Slot.{freeSlot}
-pub use Rattle.slot_rules.specs.Slots.{isFree, pastSlot, twice, distinct, Found, first, count}
+pub use Rattle.slot_rules.specs.Slots.{isFree, pastSlot, twice, distinct, Found, first, openCount, slotIn}
 unfoldable pub use Rattle.slot_rules.specs.Slots.{keepsSlot, hasKey, keepsSlots}
 use Rattle.streams.specs.declared.Table.{Table}
 
@@ -15,7 +15,7 @@ keepsTable t = keepsSlots (t .slots)
 -- ---- places
 
 abbrev pub slotAt : Table → ℕ → Slot
-slotAt t i = getD (t .slots) i pastSlot
+slotAt t i = slotIn (t .slots) i
 
 abbrev pub withSlot : Table → ℕ → Slot → Table
 withSlot t i x = record { slots = set (t .slots) i x }

@@ -9,7 +9,7 @@ use lib.ListN.{length, drop, length-set}
 use Rattle.octets.specs.Words.{every}
 use Rattle.octets.proofs.Tests.{and-next, and-not-left}
 use Rattle.octets.proofs.Lists.{unmapped, every-next, every-not}
-use Rattle.slot_rules.specs.Slots.{keepsSlot, hasKey, isFree, twice, distinct, keepsSlots, count, slotIn, pastSlot}
+use Rattle.slot_rules.specs.Slots.{keepsSlot, hasKey, isFree, twice, distinct, keepsSlots, openCount, slotIn, pastSlot}
 use Rattle.slot_rules.specs.Steps.{Marked, Seen, seenAt}
 use Rattle.slot_rules.proofs.Search.{count-next, distinct-not, distinct-next, past}
 use Rattle.slot_rules.proofs.Marks.{marked-more, marks-unlike, twice-here, twice-next, twice-end}
@@ -18,7 +18,7 @@ use Rattle.slot_rules.proofs.test.Statement.{statement}
 use Rattle.slot_rules.proofs.test.Tie as tie
 
 abbrev Inv-loop : tie.InvT-loop
-Inv-loop key slots marks₀ found₀ free₀ rows₀ i₀ marks found free rows i = (length slots ≡ 32) × (length marks ≡ 32) × (i ≤ 32) × (every keepsSlot slots ≡ every keepsSlot (drop i slots)) × Marked slots marks i × Seen (hasKey key) slots found i × Seen isFree slots free i × (rows ≤ i) × (count (λ x. x .used) slots ≡ rows + count (λ x. x .used) (drop i slots))
+Inv-loop key slots marks₀ found₀ free₀ rows₀ i₀ marks found free rows i = (length slots ≡ 32) × (length marks ≡ 32) × (i ≤ 32) × (every keepsSlot slots ≡ every keepsSlot (drop i slots)) × Marked slots marks i × Seen (hasKey key) slots found i × Seen isFree slots free i × (rows ≤ i) × (openCount slots ≡ rows + openCount (drop i slots))
 
 abbrev μ-loop : tie.MeasureT-loop
 μ-loop key slots marks₀ found₀ free₀ rows₀ i₀ marks found free rows i = 32 - i
@@ -64,7 +64,7 @@ loop-again c =
       seen-next (hasKey (at-args .key)) (at-args .t1) (at-loop .found) (at-loop .i) (omega (arith, v .0)) (search needs) (v .5) _ (at-seen .ensures ∙ ap (seenAt (at-loop .found) (at-loop .i)) (at-has-key .ensures)),
       seen-next isFree (at-args .t1) (at-loop .free) (at-loop .i) (omega (arith, v .0)) (search needs) (v .6) _ (c .before .seen2 .ensures),
       omega (arith, v .7, c .one .ensures .1),
-      omega (arith, v .8, c .one .ensures .0, count-next (at-args .t1) (at-loop .i) pastSlot (omega (arith, v .0)) (λ x. x .used)),
+      omega (arith, v .8, c .one .ensures .0, count-next (at-args .t1) (at-loop .i) pastSlot (omega (arith, v .0))),
     )
 
 loop2-holds : tie.Need-loop2-holds Inv-loop μ-loop Inv-loop3 μ-loop3 Inv-loop2 μ-loop2
@@ -123,7 +123,7 @@ returns-3 c =
     let v = at-loop2 .inv in
     let w = at-loop .inv in
     let n : length (at-args .t1) ≤ at-loop .i = omega (arith, w .0) in
-    test-good (at-args .t1) (at-args .key) _ _ _ (and-next _ _ (eq-eqb _ _ (v .0)) ∙ and-next _ _ (v .2) ∙ v .4 ∙ ap distinct (past (at-args .t1) (at-loop2 .k) (omega (arith, v .0)))) (seen-end (hasKey (at-args .key)) (at-args .t1) (at-loop .found) (at-loop .i) n (w .5)) (seen-end isFree (at-args .t1) (at-loop .free) (at-loop .i) n (w .6)) (omega (arith, w .8, ap (count (λ x. x .used)) (past (at-args .t1) (at-loop .i) n)))
+    test-good (at-args .t1) (at-args .key) _ _ _ (and-next _ _ (eq-eqb _ _ (v .0)) ∙ and-next _ _ (v .2) ∙ v .4 ∙ ap distinct (past (at-args .t1) (at-loop2 .k) (omega (arith, v .0)))) (seen-end (hasKey (at-args .key)) (at-args .t1) (at-loop .found) (at-loop .i) n (w .5)) (seen-end isFree (at-args .t1) (at-loop .free) (at-loop .i) n (w .6)) (omega (arith, w .8, ap openCount (past (at-args .t1) (at-loop .i) n)))
 
 pub test-spec : {M : Type 1} → statement M
 test-spec =
