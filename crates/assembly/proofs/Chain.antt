@@ -22,9 +22,9 @@ use Rattle.groupcalls.specs.Answer.{swept, Outcome, refuse}
 use Rattle.groupcalls.specs.Calls.{withFragment, newGroup, sweep, sweptGroup}
 use Rattle.groupcalls.proofs.Tests.{Ranged, pieces-kept, group-kept}
 use Rattle.groupcalls.proofs.Moves.{Move, joining, opening, add-moves, Taking, taking, collect-takes}
-use Rattle.fragments.specs.Store.{placeOf, storeAfter, outAfter}
+use Rattle.fragments.specs.Store.{storePlace, storeAfter, outAfter}
 use Rattle.assembly.specs.History.{Names, named, keyFor, Arrival, fragment, Call, adding, collecting, sweeping, House, outcome, bytesAfter, after, History, Reached, fresh, next, firstTime, accepted, withCall, since, bufferAfter, Delivered}
-use Rattle.assembly.proofs.Rules.{some-at, free-key, used-key, total-kept}
+use Rattle.assembly.proofs.Rules.{some-at, free-key, open-key, total-kept}
 use Rattle.assembly.proofs.Keeps.{empty-keeps, add-keeps, collect-keeps, sweep-keeps}
 use Rattle.assembly.proofs.Parts.{parts-none, parts-add}
 use Rattle.assembly.proofs.Sound.{Match, match-complete, match-joined, Good, good-empty, good-add, good-collect, good-sweep, shorts, has-same, has-other}
@@ -46,7 +46,7 @@ opened-key j f = sameKey-refl j
 -- a fragment more in its group
 joined-match : (l : List Arrival) (g : ℕ) (x : Group) (store : List ℕ) (f : Arrival) → Match l g x store → length store ≡ storeSize → Ranged (fragment f) → g < 4 → x .total ≡ f .total
     → length (x .pieces) ≡ 16 → ((n : ℕ) → n < 16 → getD (x .pieces) n noPiece .len ≤ place) → getD (x .pieces) (f .number - 1) noPiece .held ≡ false
-    → Match (f ∷ l) g (withFragment x (fragment f)) (placed (f .bytes) (placeOf g (f .number)) store)
+    → Match (f ∷ l) g (withFragment x (fragment f)) (placed (f .bytes) (storePlace g (f .number)) store)
 joined-match l g x store f m s r h e long short new =
     record {
       filled = omega arith;
@@ -60,7 +60,7 @@ joined-match l g x store f m s r h e long short new =
 
 -- the first fragment of a group
 opened-match : (j : Key) (g : ℕ) (store : List ℕ) (f : Arrival) → length store ≡ storeSize → Ranged (fragment f) → g < 4
-    → Match (f ∷ []) g (withFragment (newGroup j (fragment f)) (fragment f)) (placed (f .bytes) (placeOf g (f .number)) store)
+    → Match (f ∷ []) g (withFragment (newGroup j (fragment f)) (fragment f)) (placed (f .bytes) (storePlace g (f .number)) store)
 opened-match j g store f s r h =
     record {
       filled = omega arith;
@@ -98,7 +98,7 @@ step-add w a f said o =
         (λ i q. joined-match (said i) g y (w .store) f (o .there i g b (has-same j i y q u)) s r b v (pieces-kept y p .0) (shorts y p) z)
     go x (opening {g} k s r b u v z) e =
         good-add t (w .store) said o j g (withFragment (newGroup j (fragment f)) (fragment f)) f e s r b (opened-key j f) (λ i q. free-key i (groupAt t g) u)
-        (λ i q. subst (λ (l : List Arrival). Match (f ∷ l) g (withFragment (newGroup j (fragment f)) (fragment f)) (placed (f .bytes) (placeOf g (f .number)) (w .store))) (sym (unknown i q)) (opened-match j g (w .store) f s r b))
+        (λ i q. subst (λ (l : List Arrival). Match (f ∷ l) g (withFragment (newGroup j (fragment f)) (fragment f)) (placed (f .bytes) (storePlace g (f .number)) (w .store))) (sym (unknown i q)) (opened-match j g (w .store) f s r b))
       where
         without : (i : Key) → sameKey j i ≡ true → (x : Group) → hasKey j x ≡ false → (c : Bool) → hasKey i x ≡ c → c ≡ false
         without i q x e true h = true-not-false (hasKey j x) (has-same i j x (sameKey-sym j i q) h) e
@@ -150,7 +150,7 @@ chain {h} {w} r a out e = go (outcome w (collecting a out)) (collect-takes (w .g
         let t = w .groups in
         let m = sound r .there (keyFor a) g b u in
         let p = group-kept t k g b in
-        let o = used-key (keyFor a) (groupAt t g) u in
+        let o = open-key (keyFor a) (groupAt t g) u in
         let c = total-kept (groupAt t g) p o in
         record {
           all = sym (match-complete (since (keyFor a) h) g (groupAt t g) (w .store) m p o) ∙ v;

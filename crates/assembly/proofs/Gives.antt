@@ -20,7 +20,7 @@ use Rattle.groupcalls.proofs.Tests.{kept, pieces-kept, group-kept, collect-pass
 use Rattle.groupcalls.proofs.Moves.{first-at, first-none}
 use Rattle.fragments.proofs.Joins.{length-rest}
 use Rattle.assembly.specs.History.{Names, named, keyFor, collecting, House, outcome, History, Reached, whole, inOrder, accepted, since}
-use Rattle.assembly.proofs.Rules.{some-at, free-key, used-key}
+use Rattle.assembly.proofs.Rules.{some-at, free-key, open-key}
 use Rattle.assembly.proofs.Sound.{match-complete, match-joined, Good}
 use Rattle.assembly.proofs.Chain.{sound}
 
@@ -59,7 +59,7 @@ chain-gives {h} {w} r a out s n f c room =
         let x = groupAt t g in
         let m = o .there k g b e in
         let p = group-kept t (kept t (o .keeps)) g b in
-        let u = used-key k x e in
+        let u = open-key k x e in
         let l = length-rest (w .store) g b s x 0 (omega arith) (pieces-kept x p .0) (pieces-kept x p .1) in
         let j = ap length (match-joined (since k h) g x (w .store) m p u) in
         taken-at t g (length out) (match-complete (since k h) g x (w .store) m p u ∙ c) (omega arith)

@@ -21,7 +21,7 @@ use Rattle.groupcalls.specs.Calls.{withFragment, newGroup, add, collect, sweptG
 use Rattle.groupcalls.proofs.Tests.{Kept, kept, pieces-kept, group-kept}
 use Rattle.groupcalls.proofs.Moves.{Move, joining, opening, add-moves, Taking, taking, collect-takes, not-free}
 use Rattle.assembly.specs.History.{Call, adding, collecting, sweeping, House, named, fragment, after}
-use Rattle.assembly.proofs.Rules.{or-false, no-is, every-set, distinct-less, distinct-new, with-keeps, key-kept, used-key, free-keeps, named-keeps, twice-less, twice-now, free-key, NoMore}
+use Rattle.assembly.proofs.Rules.{or-false, no-is, every-set, distinct-less, distinct-new, with-keeps, key-kept, open-key, free-keeps, named-keeps, twice-less, twice-now, free-key, NoMore}
 
 set-keeps : (t : Groups) (g : ℕ) (y : Group) → Kept t → keepsGroup y ≡ true → distinct (set (t .items) g y) ≡ true → keepsGroups (withGroup t g y) ≡ true
 unfolding keepsGroups
@@ -40,7 +40,7 @@ add-keeps t size has o master f e = go (add t size (namedOf has o master) f) (ad
     go x (joining {g} k z r b u v w) =
         let y = groupAt t g in
         let s = group-kept t k g b in
-        set-keeps t g (withFragment y f) k (with-keeps y f r (used-key _ y u) v (pieces-kept y s .0) (pieces-kept y s .1) (key-kept y s)) (distinct-less (t .items) g (withFragment y f) (k .apart) (λ q. (q, refl)))
+        set-keeps t g (withFragment y f) k (with-keeps y f r (open-key _ y u) v (pieces-kept y s .0) (pieces-kept y s .1) (key-kept y s)) (distinct-less (t .items) g (withFragment y f) (k .apart) (λ q. (q, refl)))
     go x (opening {g} k z r b u v w) =
         let y = newGroup (namedOf has o master .key) f in
         set-keeps t g (withFragment y f) k (with-keeps y f r refl refl refl refl (named-keeps has o master w)) (distinct-new (t .items) g (withFragment y f) (k .apart) v)
@@ -56,7 +56,7 @@ collect-keeps t size named room e = go (collect t size named room) (collect-take
 module _ (time : ℕ) where
   by-sweep : (P : Group → Type 0) (x : Group) → P freeGroup → P x → P (sweptGroup time x)
   unfolding sweptGroup
-  by-sweep P x a b = go (x .used and no (complete x) and 604800 ≤? time - x .began)
+  by-sweep P x a b = go (x .«is_open» and no (complete x) and 604800 ≤? time - x .began)
     where
       go : (c : Bool) → P (if c then freeGroup else x)
       go true = a

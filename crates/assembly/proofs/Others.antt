@@ -10,7 +10,7 @@ use Rattle.octets.specs.Bytes.{placed}
 use Rattle.groups.specs.Groups.{place, storeSize, pastGroup, groupAt}
 use Rattle.groupcalls.specs.Answer.{added, collected, Outcome}
 use Rattle.groupcalls.proofs.Moves.{Move, joining, opening, add-moves, Taking, taking, collect-takes}
-use Rattle.fragments.specs.Store.{placeOf, storeAfter}
+use Rattle.fragments.specs.Store.{storePlace, storeAfter}
 use Rattle.assembly.specs.History.{Names, named, Arrival, fragment, adding, collecting, House, outcome, after}
 use Rattle.assembly.proofs.Places.{placed-before, placed-behind}
 
@@ -40,12 +40,12 @@ collect-others w a out at n j e d = go (outcome w (collecting a out)) (collect-t
 -- ---- the store: only an add writes to it, and only to its own group's places
 
 places-stay : (bytes store : List ℕ) (g number j : ℕ) → length store ≡ storeSize → length bytes ≤ place → g < 4 → 1 ≤ number → number ≤ 16 → (j ≡ g → ⊥)
-    → placesOf j (placed bytes (placeOf g number) store) ≡ placesOf j store
+    → placesOf j (placed bytes (storePlace g number) store) ≡ placesOf j store
 places-stay bytes store g number j s b h k m d = go (decLt j g)
   where
-    go : Dec (j < g) → placesOf j (placed bytes (placeOf g number) store) ≡ placesOf j store
-    go (yes lt) = placed-before bytes (placeOf g number) store (omega arith) (16 * j * place) (16 * place) (omega arith)
-    go (no ge) = let z : g < j = omega (arith, d) in placed-behind bytes (placeOf g number) store (omega arith) (16 * j * place) (16 * place) (omega arith)
+    go : Dec (j < g) → placesOf j (placed bytes (storePlace g number) store) ≡ placesOf j store
+    go (yes lt) = placed-before bytes (storePlace g number) store (omega arith) (16 * j * place) (16 * place) (omega arith)
+    go (no ge) = let z : g < j = omega (arith, d) in placed-behind bytes (storePlace g number) store (omega arith) (16 * j * place) (16 * place) (omega arith)
 
 pub add-places : (w : House) (a : Names) (f : Arrival) (at j : ℕ) → outcome w (adding a f) .answer ≡ added at → (j ≡ at → ⊥)
     → placesOf j (after w (adding a f) .store) ≡ placesOf j (w .store)

@@ -13,7 +13,7 @@ use Rattle.octets.specs.Bytes.{placed}
 use Rattle.octets.proofs.Tests.{if-yes, if-no, and-both, or-left, or-next, no-false}
 use Rattle.groups.specs.declared.Piece.{Piece}
 use Rattle.groups.specs.Groups.{place, storeSize, noPiece, isHeld}
-use Rattle.fragments.specs.Store.{placeOf, bytesAt, joinedFrom}
+use Rattle.fragments.specs.Store.{storePlace, bytesAt, joinedFrom}
 use Rattle.assembly.specs.History.{Arrival, isNumber, numbers, bytesOf, joinedBy, once}
 use Rattle.assembly.proofs.Places.{placed-here, placed-before, placed-behind}
 
@@ -34,24 +34,24 @@ parts-none g store =
 
 -- an add to the store: the place of fragment n (from 0) of group i
 module _ (b store : List ℕ) (g number : ℕ) (s : length store ≡ storeSize) (r : length b ≤ place) (h : g < 4) (one : 1 ≤ number) (top : number ≤ 16) where
-  fits : placeOf g number + length b ≤ length store
+  fits : storePlace g number + length b ≤ length store
   fits = omega arith
 
   -- its own place holds the fragment
-  pub own-place : (n : ℕ) → suc n ≡ number → take (length b) (drop ((16 * g + n) * place) (placed b (placeOf g number) store)) ≡ b
+  pub own-place : (n : ℕ) → suc n ≡ number → take (length b) (drop ((16 * g + n) * place) (placed b (storePlace g number) store)) ≡ b
   own-place n e =
-      let z : (16 * g + n) * place ≡ placeOf g number = omega arith in
-      ap (λ (m : ℕ). take (length b) (drop m (placed b (placeOf g number) store))) z ∙ placed-here b (placeOf g number) store fits
+      let z : (16 * g + n) * place ≡ storePlace g number = omega arith in
+      ap (λ (m : ℕ). take (length b) (drop m (placed b (storePlace g number) store))) z ∙ placed-here b (storePlace g number) store fits
 
   -- every other place is as it was
-  pub other-place : (i n : ℕ) (p : Piece) → p .len ≤ place → n < 16 → ((i ≡ g) × (suc n ≡ number) → ⊥) → bytesAt (placed b (placeOf g number) store) i n p ≡ bytesAt store i n p
+  pub other-place : (i n : ℕ) (p : Piece) → p .len ≤ place → n < 16 → ((i ≡ g) × (suc n ≡ number) → ⊥) → bytesAt (placed b (storePlace g number) store) i n p ≡ bytesAt store i n p
   other-place i n p q k d = go (decLt (16 * i + n) (16 * g + number - 1))
     where
-      go : Dec (16 * i + n < 16 * g + number - 1) → bytesAt (placed b (placeOf g number) store) i n p ≡ bytesAt store i n p
-      go (yes lt) = placed-before b (placeOf g number) store fits ((16 * i + n) * place) (p .len) (omega arith)
+      go : Dec (16 * i + n < 16 * g + number - 1) → bytesAt (placed b (storePlace g number) store) i n p ≡ bytesAt store i n p
+      go (yes lt) = placed-before b (storePlace g number) store fits ((16 * i + n) * place) (p .len) (omega arith)
       go (no ge) =
           let z : 16 * g + number - 1 < 16 * i + n = bigger (ℕ-discrete i g) in
-          placed-behind b (placeOf g number) store fits ((16 * i + n) * place) (p .len) (omega arith)
+          placed-behind b (storePlace g number) store fits ((16 * i + n) * place) (p .len) (omega arith)
         where
           bigger : Dec (i ≡ g) → 16 * g + number - 1 < 16 * i + n
           bigger (yes e) = differs (ℕ-discrete (suc n) number)
@@ -63,7 +63,7 @@ module _ (b store : List ℕ) (g number : ℕ) (s : length store ≡ storeSize) 
 
 -- the other groups' parts are as they were
 pub parts-stay : (l : List Arrival) (i : ℕ) (ps : List Piece) (b store : List ℕ) (g number : ℕ) → length store ≡ storeSize → length b ≤ place → g < 4 → 1 ≤ number → number ≤ 16
-    → ((n : ℕ) → n < 16 → getD ps n noPiece .len ≤ place) → (i ≡ g → ⊥) → Parts l i ps store → Parts l i ps (placed b (placeOf g number) store)
+    → ((n : ℕ) → n < 16 → getD ps n noPiece .len ≤ place) → (i ≡ g → ⊥) → Parts l i ps store → Parts l i ps (placed b (storePlace g number) store)
 parts-stay l i ps b store g number s r h one top q d k =
     record {
       held = k .held;
@@ -74,7 +74,7 @@ parts-stay l i ps b store g number s r h one top q d k =
 -- one fragment more
 pub parts-add : (l : List Arrival) (g : ℕ) (ps : List Piece) (store : List ℕ) (f : Arrival) → length store ≡ storeSize → length (f .bytes) ≤ place → g < 4 → 1 ≤ f .number
     → f .number ≤ 16 → length ps ≡ 16 → ((n : ℕ) → n < 16 → getD ps n noPiece .len ≤ place) → getD ps (f .number - 1) noPiece .held ≡ false → Parts l g ps store
-    → Parts (f ∷ l) g (set ps (f .number - 1) (record { held = true; len = length (f .bytes) })) (placed (f .bytes) (placeOf g (f .number)) store)
+    → Parts (f ∷ l) g (set ps (f .number - 1) (record { held = true; len = length (f .bytes) })) (placed (f .bytes) (storePlace g (f .number)) store)
 parts-add l g ps store f s r h one top long q new k =
     record {
       held = λ n m. holds n m (ℕ-discrete (suc n) (f .number));
@@ -86,7 +86,7 @@ parts-add l g ps store f s r h one top long q new k =
     p = record { held = true; len = length (f .bytes) }
 
     store′ : List ℕ
-    store′ = placed (f .bytes) (placeOf g (f .number)) store
+    store′ = placed (f .bytes) (storePlace g (f .number)) store
 
     here : (n : ℕ) → suc n ≡ f .number → getD (set ps (f .number - 1) p) n noPiece ≡ p
     here n e =

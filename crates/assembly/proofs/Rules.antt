@@ -50,28 +50,28 @@ some-at p [] i e d = d
 some-at p (x ∷ l) zero e d = or-false (p x) _ e .0
 some-at p (x ∷ l) (suc i) e d = some-at p l i (or-false (p x) _ e .1) d
 
-pub free-key : (k : Key) (x : Group) → x .used ≡ false → hasKey k x ≡ false
+pub free-key : (k : Key) (x : Group) → x .«is_open» ≡ false → hasKey k x ≡ false
 unfolding hasKey
 free-key k x e = rw e
 
 -- the new group y claims no key that the group x before it did not claim
 abbrev pub NoMore : Group → Group → Type 0
-NoMore x y = y .used ≡ true → (x .used ≡ true) × (x .key ≡ y .key)
+NoMore x y = y .«is_open» ≡ true → (x .«is_open» ≡ true) × (x .key ≡ y .key)
 
 more-key : (k : Key) (x y : Group) → NoMore x y → hasKey k x ≡ false → hasKey k y ≡ false
 unfolding hasKey
-more-key k x y c e = go (y .used) refl
+more-key k x y c e = go (y .«is_open») refl
   where
-    go : (b : Bool) → y .used ≡ b → (y .used and sameKey k (y .key)) ≡ false
+    go : (b : Bool) → y .«is_open» ≡ b → (y .«is_open» and sameKey k (y .key)) ≡ false
     go false q = rw q
     go true q =
         let w = c q in
-        let n : sameKey k (x .key) ≡ false = sym (and-next (x .used) _ (w .0)) ∙ e in
+        let n : sameKey k (x .key) ≡ false = sym (and-next (x .«is_open») _ (w .0)) ∙ e in
         let m : sameKey k (y .key) ≡ false = rw (← w .1) n in
-        and-next (y .used) _ q ∙ m
+        and-next (y .«is_open») _ q ∙ m
 
 pub twice-less : (x : Group) (l m : List Group) → (some (hasKey (x .key)) l ≡ false → some (hasKey (x .key)) m ≡ false) → twice x l ≡ false → twice x m ≡ false
-twice-less x l m f e = go (x .used) e
+twice-less x l m f e = go (x .«is_open») e
   where
     go : (b : Bool) → b and some (hasKey (x .key)) l ≡ false → b and some (hasKey (x .key)) m ≡ false
     go true q = f q
@@ -79,15 +79,15 @@ twice-less x l m f e = go (x .used) e
 
 -- a group y in the place of x: its key in the rest
 pub twice-now : (x y : Group) (l : List Group) → NoMore x y → twice x l ≡ false → twice y l ≡ false
-twice-now x y l c t = go (y .used) refl
+twice-now x y l c t = go (y .«is_open») refl
   where
-    go : (b : Bool) → y .used ≡ b → twice y l ≡ false
+    go : (b : Bool) → y .«is_open» ≡ b → twice y l ≡ false
     go false q = rw q
     go true q =
         let w = c q in
-        let s : some (hasKey (x .key)) l ≡ false = sym (and-next (x .used) _ (w .0)) ∙ t in
+        let s : some (hasKey (x .key)) l ≡ false = sym (and-next (x .«is_open») _ (w .0)) ∙ t in
         let u : some (hasKey (y .key)) l ≡ false = rw (← w .1) s in
-        and-next (y .used) _ q ∙ u
+        and-next (y .«is_open») _ q ∙ u
 
 pub distinct-less : (l : List Group) (i : ℕ) (y : Group) → distinct l ≡ true → NoMore (getD l i pastGroup) y → distinct (set l i y) ≡ true
 distinct-less [] i y e c = refl
@@ -98,13 +98,13 @@ distinct-less (x ∷ l) (suc i) y e c =
     (distinct-less l i y (and-right (no (twice x l)) _ e) c)
 
 -- a group that has not y's key is not had by y's
-other-key : (x y : Group) → x .used ≡ true → hasKey (y .key) x ≡ false → hasKey (x .key) y ≡ false
+other-key : (x y : Group) → x .«is_open» ≡ true → hasKey (y .key) x ≡ false → hasKey (x .key) y ≡ false
 unfolding hasKey
 other-key x y q n = flip (sameKey (x .key) (y .key)) refl
   where
-    flip : (b : Bool) → sameKey (x .key) (y .key) ≡ b → (y .used and sameKey (x .key) (y .key)) ≡ false
-    flip true z = true-not-false (x .used and sameKey (y .key) (x .key)) (and-both _ _ q (sameKey-sym (x .key) (y .key) z)) n
-    flip false z = rw z (go (y .used))
+    flip : (b : Bool) → sameKey (x .key) (y .key) ≡ b → (y .«is_open» and sameKey (x .key) (y .key)) ≡ false
+    flip true z = true-not-false (x .«is_open» and sameKey (y .key) (x .key)) (and-both _ _ q (sameKey-sym (x .key) (y .key) z)) n
+    flip false z = rw z (go (y .«is_open»))
       where
         go : (b : Bool) → b and false ≡ false
         go true = refl
@@ -113,20 +113,20 @@ other-key x y q n = flip (sameKey (x .key) (y .key)) refl
 -- a key that no group has may stand in any
 pub distinct-new : (l : List Group) (i : ℕ) (y : Group) → distinct l ≡ true → some (hasKey (y .key)) l ≡ false → distinct (set l i y) ≡ true
 distinct-new [] i y e n = refl
-distinct-new (x ∷ l) zero y e n = and-both _ _ (no-is _ (go (y .used))) (and-right (no (twice x l)) _ e)
+distinct-new (x ∷ l) zero y e n = and-both _ _ (no-is _ (go (y .«is_open»))) (and-right (no (twice x l)) _ e)
   where
     go : (b : Bool) → b and some (hasKey (y .key)) l ≡ false
     go true = or-false (hasKey (y .key) x) _ n .1
     go false = refl
 distinct-new (x ∷ l) (suc i) y e n =
-    and-both _ _ (no-is _ (go (x .used) refl)) (distinct-new l i y (and-right (no (twice x l)) _ e) (or-false (hasKey (y .key) x) _ n .1))
+    and-both _ _ (no-is _ (go (x .«is_open») refl)) (distinct-new l i y (and-right (no (twice x l)) _ e) (or-false (hasKey (y .key) x) _ n .1))
   where
-    go : (b : Bool) → x .used ≡ b → twice x (set l i y) ≡ false
+    go : (b : Bool) → x .«is_open» ≡ b → twice x (set l i y) ≡ false
     go false q = rw q
     go true q =
         let t : twice x l ≡ false = not-free _ (and-left (no (twice x l)) _ e) in
-        let s : some (hasKey (x .key)) l ≡ false = sym (and-next (x .used) _ q) ∙ t in
-        and-next (x .used) _ q ∙ some-set (hasKey (x .key)) l i y s (other-key x y q (or-false (hasKey (y .key) x) _ n .0))
+        let s : some (hasKey (x .key)) l ≡ false = sym (and-next (x .«is_open») _ q) ∙ t in
+        and-next (x .«is_open») _ q ∙ some-set (hasKey (x .key)) l i y s (other-key x y q (or-false (hasKey (y .key) x) _ n .0))
 
 -- ---- a group with one fragment more
 
@@ -149,7 +149,7 @@ held-set (x ∷ l) (suc i) p h e = go (x .held) (held-set l i p (omega arith) e)
     go false q = q
 
 -- M is that of the group, which is in use and has its rules but for a fragment held
-pub with-keeps : (x : Group) (f : Fragment) → Ranged f → x .used ≡ true → x .total ≡ f .total → length (x .pieces) ≡ 16 → keepsPieces (x .total) 0 (x .pieces) ≡ true → keepsKey (x .key) ≡ true
+pub with-keeps : (x : Group) (f : Fragment) → Ranged f → x .«is_open» ≡ true → x .total ≡ f .total → length (x .pieces) ≡ 16 → keepsPieces (x .total) 0 (x .pieces) ≡ true → keepsKey (x .key) ≡ true
     → keepsGroup (withFragment x f) ≡ true
 unfolding keepsGroup keepsPiece
 with-keeps x f r u m l k a =
@@ -163,16 +163,16 @@ unfolding keepsGroup
 key-kept x e = and-left (keepsKey (x .key)) _ (and-right (keepsPieces (x .total) 0 (x .pieces)) _ (and-right (length (x .pieces) =? 16) _ e))
 
 -- M of a group in use
-pub total-kept : (x : Group) → keepsGroup x ≡ true → x .used ≡ true → (2 ≤ x .total) × (x .total ≤ 16)
+pub total-kept : (x : Group) → keepsGroup x ≡ true → x .«is_open» ≡ true → (2 ≤ x .total) × (x .total ≤ 16)
 unfolding keepsGroup
 total-kept x e u =
     let a = and-right (keepsKey (x .key)) _ (and-right (keepsPieces (x .total) 0 (x .pieces)) _ (and-right (length (x .pieces) =? 16) _ e)) in
     let b = and-left (between 2 16 (x .total)) _ (sym (if-yes _ _ _ u) ∙ a) in
     (inside-low 2 16 (x .total) b, inside-high 2 16 (x .total) b)
 
-pub used-key : (k : Key) (x : Group) → hasKey k x ≡ true → x .used ≡ true
+pub open-key : (k : Key) (x : Group) → hasKey k x ≡ true → x .«is_open» ≡ true
 unfolding hasKey
-used-key k x e = and-left (x .used) _ e
+open-key k x e = and-left (x .«is_open») _ e
 
 pub free-keeps : keepsGroup freeGroup ≡ true
 unfolding keepsGroup keepsPiece keepsKey idIn

@@ -20,21 +20,21 @@ use Rattle.groups.specs.Groups.{place, storeSize, noPiece, freeGroup, hasKey, c
 use Rattle.groupcalls.specs.Calls.{sweptGroup}
 use Rattle.groupcalls.proofs.Tests.{Ranged, kept, pieces-kept, group-kept}
 use Rattle.groupcalls.proofs.Moves.{not-free}
-use Rattle.fragments.specs.Store.{placeOf, joined}
+use Rattle.fragments.specs.Store.{storePlace, joined}
 use Rattle.fragments.proofs.Joins.{short-at}
 use Rattle.assembly.specs.History.{Arrival, fragment, isNumber, numbers, joinedBy, totalOf, firstTime, whole, stale, inOrder, agreed}
-use Rattle.assembly.proofs.Rules.{some-at, free-key, used-key, total-kept}
+use Rattle.assembly.proofs.Rules.{some-at, free-key, open-key, total-kept}
 use Rattle.assembly.proofs.Parts.{Parts, parts-stay, held-whole, joined-whole}
 
 -- ---- a group has a key, or another
 
 pub has-same : (j k : Key) (x : Group) → sameKey j k ≡ true → hasKey j x ≡ true → hasKey k x ≡ true
 unfolding hasKey
-has-same j k x e h = and-both _ _ (and-left (x .used) _ h) (sameKey-trans k j (x .key) (sameKey-sym j k e) (and-right (x .used) _ h))
+has-same j k x e h = and-both _ _ (and-left (x .«is_open») _ h) (sameKey-trans k j (x .key) (sameKey-sym j k e) (and-right (x .«is_open») _ h))
 
 has-both : (j k : Key) (x : Group) → hasKey j x ≡ true → hasKey k x ≡ true → sameKey j k ≡ true
 unfolding hasKey
-has-both j k x a b = sameKey-trans j (x .key) k (and-right (x .used) _ a) (sameKey-sym k (x .key) (and-right (x .used) _ b))
+has-both j k x a b = sameKey-trans j (x .key) k (and-right (x .«is_open») _ a) (sameKey-sym k (x .key) (and-right (x .«is_open») _ b))
 
 pub has-other : (j k : Key) (x : Group) → sameKey j k ≡ false → hasKey j x ≡ true → hasKey k x ≡ false
 has-other j k x e h = go (hasKey k x) refl
@@ -43,28 +43,28 @@ has-other j k x e h = go (hasKey k x) refl
     go true q = true-not-false (sameKey j k) (has-both j k x h q) e
     go false q = refl
 
-has-key : (k : Key) (x y : Group) → hasKey k x ≡ true → y .used ≡ true → hasKey (x .key) y ≡ true → hasKey k y ≡ true
+has-key : (k : Key) (x y : Group) → hasKey k x ≡ true → y .«is_open» ≡ true → hasKey (x .key) y ≡ true → hasKey k y ≡ true
 unfolding hasKey
-has-key k x y a u b = and-both _ _ u (sameKey-trans k (x .key) (y .key) (and-right (x .used) _ a) (and-right (y .used) _ b))
+has-key k x y a u b = and-both _ _ u (sameKey-trans k (x .key) (y .key) (and-right (x .«is_open») _ a) (and-right (y .«is_open») _ b))
 
 of-key : (k : Key) (x y : Group) → hasKey k x ≡ true → hasKey k y ≡ true → hasKey (x .key) y ≡ true
 unfolding hasKey
-of-key k x y a b = and-both _ _ (and-left (y .used) _ b) (sameKey-trans (x .key) k (y .key) (sameKey-sym k (x .key) (and-right (x .used) _ a)) (and-right (y .used) _ b))
+of-key k x y a b = and-both _ _ (and-left (y .«is_open») _ b) (sameKey-trans (x .key) k (y .key) (sameKey-sym k (x .key) (and-right (x .«is_open») _ a)) (and-right (y .«is_open») _ b))
 
 -- groups with distinct keys: a key is had by one
 pub one-holder : (l : List Group) → distinct l ≡ true → (k : Key) (i j : ℕ) → hasKey k (getD l i pastGroup) ≡ true → hasKey k (getD l j pastGroup) ≡ true → i ≡ j
 one-holder [] e k i j a b = true-not-false (hasKey k pastGroup) a (free-key k pastGroup refl)
 one-holder (x ∷ l) e k zero zero a b = refl
-one-holder (x ∷ l) e k zero (suc j) a b = true-not-false _ (of-key k x (getD l j pastGroup) a b) (lone x l e (used-key k x a) j)
+one-holder (x ∷ l) e k zero (suc j) a b = true-not-false _ (of-key k x (getD l j pastGroup) a b) (lone x l e (open-key k x a) j)
   where
-    lone : (x : Group) (l : List Group) → distinct (x ∷ l) ≡ true → x .used ≡ true → (j : ℕ) → hasKey (x .key) (getD l j pastGroup) ≡ false
+    lone : (x : Group) (l : List Group) → distinct (x ∷ l) ≡ true → x .«is_open» ≡ true → (j : ℕ) → hasKey (x .key) (getD l j pastGroup) ≡ false
     lone x l e u j =
-        some-at (hasKey (x .key)) l j (sym (and-next (x .used) _ u) ∙ not-free (twice x l) (and-left (not (twice x l)) _ e)) (free-key (x .key) pastGroup refl)
-one-holder (x ∷ l) e k (suc i) zero a b = true-not-false _ (of-key k x (getD l i pastGroup) b a) (lone x l e (used-key k x b) i)
+        some-at (hasKey (x .key)) l j (sym (and-next (x .«is_open») _ u) ∙ not-free (twice x l) (and-left (not (twice x l)) _ e)) (free-key (x .key) pastGroup refl)
+one-holder (x ∷ l) e k (suc i) zero a b = true-not-false _ (of-key k x (getD l i pastGroup) b a) (lone x l e (open-key k x b) i)
   where
-    lone : (x : Group) (l : List Group) → distinct (x ∷ l) ≡ true → x .used ≡ true → (j : ℕ) → hasKey (x .key) (getD l j pastGroup) ≡ false
+    lone : (x : Group) (l : List Group) → distinct (x ∷ l) ≡ true → x .«is_open» ≡ true → (j : ℕ) → hasKey (x .key) (getD l j pastGroup) ≡ false
     lone x l e u j =
-        some-at (hasKey (x .key)) l j (sym (and-next (x .used) _ u) ∙ not-free (twice x l) (and-left (not (twice x l)) _ e)) (free-key (x .key) pastGroup refl)
+        some-at (hasKey (x .key)) l j (sym (and-next (x .«is_open») _ u) ∙ not-free (twice x l) (and-left (not (twice x l)) _ e)) (free-key (x .key) pastGroup refl)
 one-holder (x ∷ l) e k (suc i) (suc j) a b = ap suc (one-holder l (and-right (not (twice x l)) _ e) k i j a b)
 
 -- ---- a group that the fragments l made
@@ -76,7 +76,7 @@ pub record Match (l : List Arrival) (g : ℕ) (x : Group) (store : List ℕ) : T
   pub began : firstTime l ≡ x .began
   pub parts : Parts l g (x .pieces) store
 
-module _ (l : List Arrival) (g : ℕ) (x : Group) (store : List ℕ) (m : Match l g x store) (k : keepsGroup x ≡ true) (u : x .used ≡ true) where
+module _ (l : List Arrival) (g : ℕ) (x : Group) (store : List ℕ) (m : Match l g x store) (k : keepsGroup x ≡ true) (u : x .«is_open» ≡ true) where
   -- it is complete if each of the fragments 1 to M is there
   pub match-complete : complete x ≡ whole l
   match-complete =
@@ -91,13 +91,13 @@ module _ (l : List Arrival) (g : ℕ) (x : Group) (store : List ℕ) (m : Match 
       let t = total-kept x k u in
       joined-whole l store g 0 (x .total) (x .pieces) (omega arith) (λ i h. let z : 0 + i ≡ i = omega arith in rw z (m .parts .bytes i (omega arith))) ∙ ap (λ (c : ℕ). joinedBy (numbers 1 c) l) (sym (m .total))
 
-match-stale : (l : List Arrival) (g : ℕ) (x : Group) (store : List ℕ) (time : ℕ) → Match l g x store → keepsGroup x ≡ true → x .used ≡ true
-    → stale time l ≡ (x .used and not (complete x) and 604800 ≤? time - x .began)
+match-stale : (l : List Arrival) (g : ℕ) (x : Group) (store : List ℕ) (time : ℕ) → Match l g x store → keepsGroup x ≡ true → x .«is_open» ≡ true
+    → stale time l ≡ (x .«is_open» and not (complete x) and 604800 ≤? time - x .began)
 match-stale [] g x store time m k u = let h = m .filled in absurd (omega arith)
 match-stale (f ∷ l) g x store time m k u =
     let c : whole (f ∷ l) ≡ complete x = sym (match-complete (f ∷ l) g x store m k u) in
     let b : firstTime (f ∷ l) ≡ x .began = m .began in
-    (λ i. not (c i) and 604800 ≤? time - b i) ∙ sym (and-next (x .used) _ u)
+    (λ i. not (c i) and 604800 ≤? time - b i) ∙ sym (and-next (x .«is_open») _ u)
 
 -- ---- groups and a store that agree with what a history says, `said k` being the fragments under the key k
 
@@ -123,12 +123,12 @@ shorts x k n h = let l = pieces-kept x k in short-at (x .total) (x .pieces) n (l
 module _ (t : Groups) (store : List ℕ) (said : Key → List Arrival) (o : Good t store said) (j : Key) (g : ℕ) (y : Group) (f : Arrival)
     (keeps : keepsGroups (withGroup t g y) ≡ true) (s : length store ≡ storeSize) (r : Ranged (fragment f)) (h : g < 4) (hy : hasKey j y ≡ true)
     (before : (k : Key) → sameKey j k ≡ false → hasKey k (groupAt t g) ≡ false)
-    (made : (k : Key) → sameKey j k ≡ true → Match (f ∷ said k) g y (placed (f .bytes) (placeOf g (f .number)) store)) where
+    (made : (k : Key) → sameKey j k ≡ true → Match (f ∷ said k) g y (placed (f .bytes) (storePlace g (f .number)) store)) where
   long : length (t .items) ≡ 4
   long = kept t (o .keeps) .long
 
   abbrev store′ : List ℕ
-  store′ = placed (f .bytes) (placeOf g (f .number)) store
+  store′ = placed (f .bytes) (storePlace g (f .number)) store
 
   abbrev t′ : Groups
   t′ = withGroup t g y
@@ -223,7 +223,7 @@ module _ (t : Groups) (store : List ℕ) (said : Key → List Arrival) (o : Good
   left = record { items = map (sweptGroup time) (t .items) }
 
   abbrev old : Group → Bool
-  old x = x .used and not (complete x) and 604800 ≤? time - x .began
+  old x = x .«is_open» and not (complete x) and 604800 ≤? time - x .began
 
   past-stays : sweptGroup time pastGroup ≡ pastGroup
   unfolding sweptGroup
@@ -242,7 +242,7 @@ module _ (t : Groups) (store : List ℕ) (said : Key → List Arrival) (o : Good
 
   -- what a key's fragments say of its group
   aged : (k : Key) (i : ℕ) → i < 4 → hasKey k (groupAt t i) ≡ true → stale time (said k) ≡ old (groupAt t i)
-  aged k i b e = match-stale (said k) i (groupAt t i) store time (o .there k i b e) (group-kept t (kept t (o .keeps)) i b) (used-key k (groupAt t i) e)
+  aged k i b e = match-stale (said k) i (groupAt t i) store time (o .there k i b e) (group-kept t (kept t (o .keeps)) i b) (open-key k (groupAt t i) e)
 
   pub good-sweep : Good left store (λ k. if stale time (said k) then [] else said k)
   good-sweep = record { keeps = keeps; there = λ k i b e. found k i b (ap (hasKey k) (sym (left-at i)) ∙ e) (old (groupAt t i)) refl; none = λ k z. gone k z (scan (λ i. hasKey k (groupAt t i)) 4) }

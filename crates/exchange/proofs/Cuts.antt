@@ -20,7 +20,7 @@ use Rattle.session.specs.Feed.{feed}
 use Rattle.session_rules.specs.Rules.{keepsSession, stepRefusal}
 use Rattle.session.specs.Calls.{Outcome, stepOf}
 use Rattle.session.proofs.Tests.{step-goes}
-use Rattle.exchange.specs.Host.{Lent, noted, isClosed, stepOn, pieceOf, usedBytes, sees, Goes}
+use Rattle.exchange.specs.Host.{Lent, reports, isClosed, stepOn, pieceOf, usedBytes, sees, Goes}
 use Rattle.exchange.proofs.Keeps.{on, step-keeps}
 
 abbrev Ok : Session → Type 0
@@ -40,24 +40,24 @@ goes s c o d p r = rw (step-goes s (c .piece) (c .payload) (c .room) o (eqb-fals
 module _ (s : Session) (c : Lent) where
   abbrev Served : Outcome → Type 0
   Served x =
-      (_≡_ {A = Out Session Happening} (record { used = x .answered .used; state = x .answered .next; reply = x .reply; happened = x .answered .happening }) (run feed nothing 0 s (c .piece)))
-      ⊎ (_≡_ {A = Out Session Happening} (record { used = x .answered .used; state = x .answered .next; reply = x .reply; happened = x .answered .happening }) (record { used = 0; state = s; reply = []; happened = nothing }))
+      (_≡_ {A = Out Session Happening} (record { used = x .stepRecord .used; state = x .stepRecord .next; reply = x .reply; happened = x .stepRecord .happening }) (run feed nothing 0 s (c .piece)))
+      ⊎ (_≡_ {A = Out Session Happening} (record { used = x .stepRecord .used; state = x .stepRecord .next; reply = x .reply; happened = x .stepRecord .happening }) (record { used = 0; state = s; reply = []; happened = nothing }))
 
   pub serves : Served (stepOf s (c .piece) (c .payload) (c .room))
   unfolding stepOf
   serves = on Served (stepRefusal s (length (c .payload)) (c .room) =? 0) _ _ (λ a. inl refl) (λ a. inr refl)
 
 -- THE THEOREM over any list of calls, from any session
-pub calls-are-bytes : (s : Session) (cs : List Lent) → sees s cs ≡ seen feed noted s (usedBytes s cs)
-calls-are-bytes s cs = calls-bytes feed nothing noted refl stepOn pieceOf (λ x. Unit {0}) (λ x c o. tt) (λ x c o. serves x c) s cs tt
+pub calls-are-bytes : (s : Session) (cs : List Lent) → sees s cs ≡ seen feed reports s (usedBytes s cs)
+calls-are-bytes s cs = calls-bytes feed nothing reports refl stepOn pieceOf (λ x. Unit {0}) (λ x c o. tt) (λ x c o. serves x c) s cs tt
 
 -- two lists of calls that used the same bytes
 pub same-bytes : (s : Session) (cs ds : List Lent) → usedBytes s cs ≡ usedBytes s ds → sees s cs ≡ sees s ds
-same-bytes s cs ds e = calls-are-bytes s cs ∙ ap (seen feed noted s) e ∙ sym (calls-are-bytes s ds)
+same-bytes s cs ds e = calls-are-bytes s cs ∙ ap (seen feed reports s) e ∙ sym (calls-are-bytes s ds)
 
 -- a stream
-pub through-a-stream : (s : Session) (stream : List ℕ) (cs : List Lent) → Goes s stream cs → sees s cs ≡ seen feed noted s stream
-through-a-stream s stream cs t = stream-seen feed nothing noted refl stepOn pieceOf (λ x. Unit {0}) (λ x c o. tt) (λ x c o. serves x c) isClosed rests s stream cs tt t
+pub through-a-stream : (s : Session) (stream : List ℕ) (cs : List Lent) → Goes s stream cs → sees s cs ≡ seen feed reports s stream
+through-a-stream s stream cs t = stream-seen feed nothing reports refl stepOn pieceOf (λ x. Unit {0}) (λ x c o. tt) (λ x c o. serves x c) isClosed rests s stream cs tt t
 
 pub cut-independent : (s : Session) (stream : List ℕ) (cs ds : List Lent) → Goes s stream cs → Goes s stream ds → sees s cs ≡ sees s ds
 cut-independent s stream cs ds p q = through-a-stream s stream cs p ∙ sym (through-a-stream s stream ds q)
@@ -66,7 +66,7 @@ cut-independent s stream cs ds p q = through-a-stream s stream cs p ∙ sym (thr
 pub a-host : (payload : ℕ → List ℕ) (room : ℕ → ℕ) → ((n : ℕ) → 4096 ≤ length (payload n)) → ((n : ℕ) → 24 ≤ room n)
     → (s : Session) (stream : List ℕ) → keepsSession s ≡ true → (cs : List Lent) × Goes s stream cs
 a-host payload room p r s stream o =
-    goes-through feed nothing noted refl stepOn pieceOf Ok keeps (λ s c o. serves s c) isClosed rests
+    goes-through feed nothing reports refl stepOn pieceOf Ok keeps (λ s c o. serves s c) isClosed rests
     (λ n l. record { piece = l; payload = payload n; room = room n }) (λ n l. refl)
     (λ n s l o d. goes s (record { piece = l; payload = payload n; room = room n }) o d (p n) (r n)) (length stream) s stream o (omega arith)
 

@@ -17,7 +17,7 @@ use Rattle.envelope.specs.declared.Envelope.{Envelope}
 use Rattle.sha1.specs.declared.Sha1.{Sha1}
 use Rattle.sha1.specs.Machine.{fed, finished}
 use Rattle.sha1.specs.Id.{idNumber}
-use Rattle.line.specs.Reading.{Reading, restOf, isText, framed, valuesGood, wellFormed, chkRight, lineOf, refusalOf, answered, readOf}
+use Rattle.line.specs.Reading.{Reading, restOf, isText, framed, valuesGood, wellFormed, chkRight, lineOf, refusalOf, readAs, readOf}
 use Rattle.line_groups.specs.Rules.{deflated}
 use Rattle.line_groups.specs.Answers.{lenOf}
 use Rattle.tokens.specs.Tokens.{tokens}
@@ -88,7 +88,7 @@ unfolding wellFormed lineOf
 both-good s a b =
     and-both _ _ (envelope-id (lineOf s .fields) (and-right (valuesGood (tokens (restOf s))) _ (and-right (framed s) _ (and-right (isText s) _ a)))) (le-leb (lenOf (tokens (restOf s))) longestPayload (ltb-false longestPayload (lenOf (tokens (restOf s))) b))
 
-read-terms : (s : List ℕ) → (r : ℕ) → refusalOf s ≡ r → answered r (lineOf s) .reading ≡ Reading.Read → keepsTerms (termsOf (answered r (lineOf s) .line)) ≡ true
+read-terms : (s : List ℕ) → (r : ℕ) → refusalOf s ≡ r → readAs r (lineOf s) .reading ≡ Reading.Read → keepsTerms (termsOf (readAs r (lineOf s) .line)) ≡ true
 unfolding keepsTerms refusalOf
 read-terms s (suc n) e q = let z : _≡_ {A = ℕ} 0 1 = cc in absurd (omega arith)
 read-terms s zero e q =
@@ -194,9 +194,9 @@ feed-ok s b o =
 -- ---- THE THEOREM
 
 abbrev Keeping : Outcome → Type 0
-Keeping o = keepsSession (o .answered .next) ≡ true
+Keeping o = keepsSession (o .stepRecord .next) ≡ true
 
-pub step-keeps : (s : Session) (piece pl : List ℕ) (room : ℕ) → keepsSession s ≡ true → keepsSession (stepOf s piece pl room .answered .next) ≡ true
+pub step-keeps : (s : Session) (piece pl : List ℕ) (room : ℕ) → keepsSession s ≡ true → keepsSession (stepOf s piece pl room .stepRecord .next) ≡ true
 unfolding stepOf
 step-keeps s piece pl room e =
     on Keeping (stepRefusal s (length pl) room =? 0) _ _ (λ a. run-keeps feed nothing Keeps feed-ok 0 s piece e) (λ a. e)

@@ -183,9 +183,9 @@ module _ (h : Between) (c : Lent) (k : Sound h) where
 
   -- what is asked of a call's outcome, where r are the bytes received after it
   record Right (r : List ℕ) (o : Outcome) : Type 0 where
-    digest : o .answered .next .mode ≡ 2 → (length r ≡ o .answered .next .got) × (o .answered .next .hash ≡ fedAll (salted (o .answered .next .terms)) r)
+    digest : o .stepRecord .next .mode ≡ 2 → (length r ≡ o .stepRecord .next .got) × (o .stepRecord .next .hash ≡ fedAll (salted (o .stepRecord .next .terms)) r)
     places : (i : ℕ) → i < length r → had i ≡ true → getD (o .payload) i 0 ≡ getD r i 0
-    message : (x : Terms) → o .answered .happening .what ≡ what.message x → (length r ≡ x .len) × (messageId (saltOf x) r ≡ is (x .id)) × (longestPayload ≤ length (o .payload))
+    message : (x : Terms) → o .stepRecord .happening .what ≡ what.message x → (length r ≡ x .len) × (messageId (saltOf x) r ≡ is (x .id)) × (longestPayload ≤ length (o .payload))
 
   -- a place whose byte came before is in the lent buffer as it was left
   as-left : (i : ℕ) → i < length (h .received) → had i ≡ true → getD (c .payload) i 0 ≡ getD (h .received) i 0
@@ -194,8 +194,8 @@ module _ (h : Between) (c : Lent) (k : Sound h) where
       eqb-true _ _ (and-right (h .alone i) _ b) ∙ k .places i l (and-left (h .alone i) _ b)
 
   -- no payload comes
-  none-right : (o : Outcome) → (o .answered .next .mode ≡ 2 → (o .answered .next .got ≡ 0) × (o .answered .next .hash ≡ salted (o .answered .next .terms)))
-      → ((x : Terms) → o .answered .happening .what ≡ what.message x → (x .len ≡ 0) × (idNumber (finished (salted x)) ≡ x .id)) → longestPayload ≤ length (o .payload) → Right [] o
+  none-right : (o : Outcome) → (o .stepRecord .next .mode ≡ 2 → (o .stepRecord .next .got ≡ 0) × (o .stepRecord .next .hash ≡ salted (o .stepRecord .next .terms)))
+      → ((x : Terms) → o .stepRecord .happening .what ≡ what.message x → (x .len ≡ 0) × (idNumber (finished (salted x)) ≡ x .id)) → longestPayload ≤ length (o .payload) → Right [] o
   none-right o d m l = record {
     digest = λ e. (sym (d e .0), d e .1);
     places = λ i p a. absurd (omega arith);
@@ -291,10 +291,10 @@ module _ (h : Between) (c : Lent) (k : Sound h) where
   record Fair (g : Between) (o : Outcome) : Type 0 where
     digest : g .session .mode ≡ 2 → (length (g .received) ≡ g .session .got) × (g .session .hash ≡ fedAll (salted (g .session .terms)) (g .received))
     places : (i : ℕ) → i < length (g .received) → g .alone i ≡ true → getD (g .buffer) i 0 ≡ getD (g .received) i 0
-    message : (x : Terms) → o .answered .happening .what ≡ what.message x → (length (g .received) ≡ x .len) × (messageId (saltOf x) (g .received) ≡ is (x .id)) × (longestPayload ≤ length (g .buffer))
+    message : (x : Terms) → o .stepRecord .happening .what ≡ what.message x → (length (g .received) ≡ x .len) × (messageId (saltOf x) (g .received) ≡ is (x .id)) × (longestPayload ≤ length (g .buffer))
 
   abbrev Asked : Outcome → Type 0
-  Asked o = Fair (afterAs (o .answered .answer) h c o) o
+  Asked o = Fair (afterAs (o .stepRecord .answer) h c o) o
 
   refused-fair : (n : ℕ) → Asked (refused s (c .payload) n)
   refused-fair n = record { digest = k .digest; places = k .places; message = λ x e. absurd (not-nothing x e) }
@@ -322,13 +322,13 @@ module _ (h : Between) (c : Lent) (k : Sound h) where
           by true e = payload-right room (eqb-true _ _ e)
           by false e = line-right room (mode-low s (kept s (k .keeps)) (g .going) (eqb-false _ _ e))
 
-  kept-after : (a : answer.Answer) (o : Outcome) → keepsSession (o .answered .next) ≡ true → keepsSession (afterAs a h c o .session) ≡ true
+  kept-after : (a : answer.Answer) (o : Outcome) → keepsSession (o .stepRecord .next) ≡ true → keepsSession (afterAs a h c o .session) ≡ true
   kept-after (answer.refused n) o e = k .keeps
   kept-after answer.made o e = e
 
   after-sound : Sound (after h c)
   after-sound = record {
-    keeps = kept-after (call s c .answered .answer) (call s c) (step-keeps s (c .piece) (c .payload) (c .room) (k .keeps));
+    keeps = kept-after (call s c .stepRecord .answer) (call s c) (step-keeps s (c .piece) (c .payload) (c .room) (k .keeps));
     digest = right .digest;
     places = right .places;
   }
@@ -348,7 +348,7 @@ all-sound cs = from-sound atFirst cs first-sound
 pub place-holds : (cs : List Lent) (i : ℕ) → let h = afterAll atFirst cs in i < length (h .received) → h .alone i ≡ true → getD (h .buffer) i 0 ≡ getD (h .received) i 0
 place-holds cs = all-sound cs .places
 
-module _ (cs : List Lent) (c : Lent) (t : Terms) (m : call (afterAll atFirst cs .session) c .answered .happening .what ≡ what.message t) where
+module _ (cs : List Lent) (c : Lent) (t : Terms) (m : call (afterAll atFirst cs .session) c .stepRecord .happening .what ≡ what.message t) where
   abbrev H : Between
   H = after (afterAll atFirst cs) c
 

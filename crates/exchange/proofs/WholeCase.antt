@@ -18,7 +18,7 @@ use Rattle.session.specs.Feed.{feed}
 use Rattle.session.specs.Answer.{Opening}
 use Rattle.session_rules.specs.Rules.{keepsSession}
 use Rattle.session.specs.Calls.{openOf, openReply}
-use Rattle.exchange.specs.Host.{Lent, noted, sees, Goes}
+use Rattle.exchange.specs.Host.{Lent, reports, sees, Goes}
 use Rattle.exchange.specs.Exchange.{hears, whoQuit, whoQuitHeard}
 use Rattle.exchange.proofs.Keeps.{listening-keeps}
 use Rattle.exchange.proofs.Cuts.{through-a-stream, a-host}
@@ -27,7 +27,7 @@ opens : (room : ℕ) → 24 ≤ room → (openOf room .next ≡ listening) × (o
 unfolding openOf openReply
 opens room h = (ap (λ (o : Opening). o .next) (if-no _ _ _ (le-ltb room 24 h)), if-no _ _ _ (le-ltb room 24 h))
 
-said : prompt ++ seen feed noted listening whoQuit .reply ≡ whoQuitHeard
+said : prompt ++ seen feed reports listening whoQuit .reply ≡ whoQuitHeard
 unfolding same verb spells kindOf heard feed
 said = refl
 

@@ -46,7 +46,7 @@ emptyOffer = lent (105 ∷ 104 ∷ 97 ∷ 118 ∷ 101 ∷ 32 ∷ 100 ∷ 97 ∷ 
 abbrev pub emptyData : Lent
 emptyData = lent (100 ∷ 97 ∷ 116 ∷ 97 ∷ 32 ∷ 100 ∷ 97 ∷ 51 ∷ 57 ∷ 97 ∷ 51 ∷ 101 ∷ 10 ∷ [])
 
-pub message-met : call (afterAll atFirst (emptyOffer ∷ []) .session) emptyData .answered .happening .what
+pub message-met : call (afterAll atFirst (emptyOffer ∷ []) .session) emptyData .stepRecord .happening .what
     ≡ what.message (record { id = 0xDA39A3E; «has_salt» = false; salt = pos 0; len = 0 })
 unfolding same utf.run digits.value runs.run runs.rest alnum suffix baseLength callsign appByte atCallsign destination reserved reservedKeys textByte ruled idText streamId headerKey headerValue allDiffer keyOf keysOf valueOf header headers bitFeed fitted padded idIn ttlIn fragmentIn callIn streamIn addressIn envelope has before after split present value others lastOnly keyed plain isText framed payloadGood singlesGood isPart fragmentGood streamGood headersFit headersOf fieldsOf valuesGood wellFormed chkRight refusalOf readOf lineOf quarter scheduled schedule round rounds plus compressed padding fed verb spells kindOf isData keepsTerms completed heard dataHeard keepsLine keepsPayload keepsSession stepRefusal feed stepOf digits.digits
 message-met = refl

@@ -24,20 +24,20 @@ call s c = stepOf s (c .piece) (c .payload) (c .room)
 -- ---- what is seen of the calls
 
 -- what the host notes of a step: all but "nothing"
-abbrev pub notedOf : Happening → Happened → List Happening
-notedOf h what.nothing = []
-notedOf h (what.offer t) = h ∷ []
-notedOf h (what.message t) = h ∷ []
-notedOf h (what.ended n) = h ∷ []
+abbrev pub reportsOf : Happening → Happened → List Happening
+reportsOf h what.nothing = []
+reportsOf h (what.offer t) = h ∷ []
+reportsOf h (what.message t) = h ∷ []
+reportsOf h (what.ended n) = h ∷ []
 
-abbrev pub noted : Happening → List Happening
-noted h = notedOf h (h .what)
+abbrev pub reports : Happening → List Happening
+reports h = reportsOf h (h .what)
 
 abbrev pub isClosed : Session → Bool
 isClosed s = s .mode =? 3
 
 abbrev pub stepOn : Session → Lent → Out Session Happening
-stepOn s c = record { used = call s c .answered .used; state = call s c .answered .next; reply = call s c .reply; happened = call s c .answered .happening }
+stepOn s c = record { used = call s c .stepRecord .used; state = call s c .stepRecord .next; reply = call s c .reply; happened = call s c .stepRecord .happening }
 
 abbrev pub pieceOf : Lent → List ℕ
 pieceOf c = c .piece
@@ -47,10 +47,10 @@ abbrev pub usedBytes : Session → List Lent → List ℕ
 usedBytes = bytesUsed stepOn pieceOf
 
 abbrev pub sees : Session → List Lent → Seen Session Happening
-sees = seenBy stepOn pieceOf noted
+sees = seenBy stepOn pieceOf reports
 
 abbrev pub Goes : Session → List ℕ → List Lent → Type 0
-Goes = Through stepOn pieceOf isClosed noted
+Goes = Through stepOn pieceOf isClosed reports
 
 -- ---- what the host has between two calls: the session; of the payload that comes, or has just come, the bytes received; the payload buffer
 -- as the last made call left it; and at which places each made call since the byte came was lent what the made call before it left
@@ -67,14 +67,14 @@ atFirst = record { session = listening; received = []; buffer = []; alone = λ i
 abbrev pub afterAs : answer.Answer → Between → Lent → Outcome → Between
 afterAs (answer.refused n) h c o = h
 afterAs answer.made h c o = record {
-  session = o .answered .next;
-  received = if h .session .mode =? 2 then h .received ++ take (o .answered .used) (c .piece) else [];
+  session = o .stepRecord .next;
+  received = if h .session .mode =? 2 then h .received ++ take (o .stepRecord .used) (c .piece) else [];
   buffer = o .payload;
   alone = λ i. if i <? length (h .received) then h .alone i and getD (c .payload) i 0 =? getD (h .buffer) i 0 else true;
 }
 
 abbrev pub after : Between → Lent → Between
-after h c = afterAs (call (h .session) c .answered .answer) h c (call (h .session) c)
+after h c = afterAs (call (h .session) c .stepRecord .answer) h c (call (h .session) c)
 
 abbrev pub afterAll : Between → List Lent → Between
 afterAll h [] = h

@@ -10,12 +10,12 @@ use Rattle.groups.specs.Groups.{place, fragments, groupAt}
 use Rattle.groupcalls.specs.Answer.{Said, added, collected, swept, refused}
 
 -- where fragment N of group g begins
-abbrev pub placeOf : ℕ → ℕ → ℕ
-placeOf g number = (16 * g + number - 1) * place
+abbrev pub storePlace : ℕ → ℕ → ℕ
+storePlace g number = (16 * g + number - 1) * place
 
 -- the store after an add: the fragment's bytes at its place, and all else as it was
 abbrev pub storeAfter : Said → ℕ → List ℕ → List ℕ → List ℕ
-storeAfter (added g) number bytes store = placed bytes (placeOf g number) store
+storeAfter (added g) number bytes store = placed bytes (storePlace g number) store
 storeAfter (collected g n) number bytes store = store
 storeAfter swept number bytes store = store
 storeAfter (refused n) number bytes store = store

@@ -55,7 +55,7 @@ pub data Move (t : Groups) (size : ℕ) (named : Named) (f : Fragment) : Outcome
   refusing : (n : ℕ) → Move t size named f (refuse n t)
   joining : {g : ℕ} → Kept t → size ≡ storeSize → Ranged f → g < 4 → hasKey (named .key) (groupAt t g) ≡ true → groupAt t g .total ≡ f .total
       → getD (groupAt t g .pieces) (f .number - 1) noPiece .held ≡ false → Move t size named f (addTo t g (groupAt t g) f)
-  opening : {g : ℕ} → Kept t → size ≡ storeSize → Ranged f → g < 4 → groupAt t g .used ≡ false → some (hasKey (named .key)) (t .items) ≡ false → named .refusal ≡ 0
+  opening : {g : ℕ} → Kept t → size ≡ storeSize → Ranged f → g < 4 → groupAt t g .«is_open» ≡ false → some (hasKey (named .key)) (t .items) ≡ false → named .refusal ≡ 0
       → Move t size named f (addTo t g (newGroup (named .key) f) f)
 
 pub add-moves : (t : Groups) (size : ℕ) (named : Named) (f : Fragment) → Move t size named f (add t size named f)

@@ -114,9 +114,9 @@ add-named t size m n f e = ap (λ (x : Named). add t size x f) e
 
 -- a new group, from the free one that it takes
 pub new-at : (t : Groups) (k : Key) (f : Fragment) (g : ℕ) (x : Group) → x ≡ freeGroup → Found.At g ≡ first isFree 0 (t .items)
-    → addTo t g (record { used = true; key = k; total = f .total; began = f .time; pieces = x .pieces }) f ≡ addNew t k f
+    → addTo t g (record { «is_open» = true; key = k; total = f .total; began = f .time; pieces = x .pieces }) f ≡ addNew t k f
 new-at t k f g x e q =
-    ap {B = Outcome} (λ (y : Group). addTo t g (record { used = true; key = k; total = f .total; began = f .time; pieces = y .pieces }) f) e ∙ ap (addIn t k f) q
+    ap {B = Outcome} (λ (y : Group). addTo t g (record { «is_open» = true; key = k; total = f .total; began = f .time; pieces = y .pieces }) f) e ∙ ap (addIn t k f) q
 
 -- ---- collect, from what the code found
 

@@ -34,7 +34,7 @@ inRange f = between 2 16 (f .total) and between 1 (f .total) (f .number) and f .
 -- the group x with the fragment held
 abbrev pub withFragment : Group → Fragment → Group
 withFragment x f =
-    record { used = x .used; key = x .key; total = x .total; began = x .began; pieces = set (x .pieces) (f .number - 1) (record { held = true; len = f .len }) }
+    record { «is_open» = x .«is_open»; key = x .key; total = x .total; began = x .began; pieces = set (x .pieces) (f .number - 1) (record { held = true; len = f .len }) }
 
 abbrev pub addTo : Groups → ℕ → Group → Fragment → Outcome
 addTo t g x f = record { answer = added g; after = withGroup t g (withFragment x f) }
@@ -48,7 +48,7 @@ addAt t g f =
 
 -- a group that opens with this fragment: no fragment is held yet
 abbrev pub newGroup : Key → Fragment → Group
-newGroup k f = record { used = true; key = k; total = f .total; began = f .time; pieces = replicate 16 noPiece }
+newGroup k f = record { «is_open» = true; key = k; total = f .total; began = f .time; pieces = replicate 16 noPiece }
 
 -- a new group takes the lowest free one, if there is one (20)
 abbrev pub addIn : Groups → Key → Fragment → Found → Outcome

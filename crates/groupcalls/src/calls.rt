@@ -121,7 +121,7 @@ pub(crate) fn add_new(t: Groups, key: Key, f: Fragment) -> Served
         return refused(refusals::NO_FREE_GROUP, t);
     };
     let mut x = groups::free_group();
-    x.used = true;
+    x.is_open = true;
     x.key = key;
     x.total = f.total;
     x.began = f.time;

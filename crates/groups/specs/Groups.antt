@@ -27,14 +27,14 @@ abbrev pub isHeld : Piece → Bool
 isHeld p = p .held
 
 abbrev pub freeGroup : Group
-freeGroup = record { used = false; key = noKey; total = 0; began = 0; pieces = replicate 16 noPiece }
+freeGroup = record { «is_open» = false; key = noKey; total = 0; began = 0; pieces = replicate 16 noPiece }
 
 abbrev pub isFree : Group → Bool
-isFree x = no (x .used)
+isFree x = no (x .«is_open»)
 
 -- the group is in use and has the key
 unfoldable pub hasKey : Key → Group → Bool
-hasKey k x = x .used and sameKey k (x .key)
+hasKey k x = x .«is_open» and sameKey k (x .key)
 
 -- the fragments 1 to M
 abbrev pub fragments : Group → List Piece
@@ -65,7 +65,7 @@ keepsPieces total n (p ∷ rest) = keepsPiece total n p and keepsPieces total (n
 -- a group in use has M 2 to 16 and holds a fragment; a free one is all zero
 abbrev pub keepsUse : Group → Bool
 keepsUse x =
-    if x .used then between 2 16 (x .total) and some isHeld (x .pieces)
+    if x .«is_open» then between 2 16 (x .total) and some isHeld (x .pieces)
     else no (x .key .«has_originator») and x .key .master =? 0 and x .total =? 0 and x .began =? 0
 
 unfoldable pub keepsGroup : Group → Bool
@@ -73,7 +73,7 @@ keepsGroup x = length (x .pieces) =? 16 and keepsPieces (x .total) 0 (x .pieces)
 
 -- the group is in use, and one of the rest has its key
 abbrev pub twice : Group → List Group → Bool
-twice x rest = x .used and some (hasKey (x .key)) rest
+twice x rest = x .«is_open» and some (hasKey (x .key)) rest
 
 -- no two groups in use have equal keys
 abbrev pub distinct : List Group → Bool
@@ -93,7 +93,7 @@ first p n (x ∷ rest) = if p x then Found.At n else first p (n + 1) rest
 
 -- what a list gives past its end
 abbrev pub pastGroup : Group
-pastGroup = record { used = false; key = record { «has_originator» = false; originator = []; «originator_len» = 0; master = 0 }; total = 0; began = 0; pieces = [] }
+pastGroup = record { «is_open» = false; key = record { «has_originator» = false; originator = []; «originator_len» = 0; master = 0 }; total = 0; began = 0; pieces = [] }
 
 abbrev pub groupAt : Groups → ℕ → Group
 groupAt t g = getD (t .items) g pastGroup

@@ -21,7 +21,7 @@ pub struct Piece {
 
 // A group with its key, M, when its first fragment came, and its fragments 1 to 16; or a free one, all zero.
 pub struct Group {
-    pub used: bool,
+    pub is_open: bool,
     pub key: Key,
     pub total: usize,
     pub began: u32,
@@ -79,7 +79,7 @@ impl Groups {
         let mut g: usize = 0;
         while g < 4 {
             let x = self.items[g];
-            if !x.used {
+            if !x.is_open {
                 return Found::At(g);
             }
             g += 1;
@@ -98,7 +98,7 @@ pub fn free_group() -> Group
         len: 0,
     };
     Group {
-        used: false,
+        is_open: false,
         key: key,
         total: 0,
         began: 0,

@@ -12,7 +12,7 @@ use groupkeys::Key;
 pub(crate) fn has_key(key: Key, x: Group) -> bool
     ensures { λ r. ⌜ r ≡ hasKey key x ⌝ }
 {
-    if !x.used {
+    if !x.is_open {
         return false;
     }
     let other = x.key;
@@ -64,7 +64,7 @@ fn holds_some(x: Group) -> bool
 fn keeps_use(x: Group) -> bool
     ensures { λ r. ⌜ r ≡ keepsUse x ⌝ }
 {
-    if x.used {
+    if x.is_open {
         if x.total < 2 {
             return false;
         }
@@ -134,7 +134,7 @@ fn is_twice(t: Groups, x: Group, at: usize) -> bool
     requires { ⌜ at ≤ 4 ⌝ }
     ensures { λ r. ⌜ r ≡ twice x (drop (at + 1) (t .items)) ⌝ }
 {
-    if !x.used {
+    if !x.is_open {
         return false;
     }
     let key = x.key;

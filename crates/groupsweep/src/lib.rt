@@ -19,7 +19,7 @@ fn age(time: u32, began: u32) -> u32
 fn swept(x: Group, time: u32) -> Group
     ensures { λ r. ⌜ r ≡ sweptGroup time x ⌝ }
 {
-    if !x.used {
+    if !x.is_open {
         return x;
     }
     if groups::is_complete(x) {
@@ -55,7 +55,7 @@ pub fn stands_complete(groups: Groups, number: usize) -> bool
         return false;
     }
     let x = groups.items[number];
-    if !x.used {
+    if !x.is_open {
         return false;
     }
     groups::is_complete(x)

@@ -31,7 +31,7 @@ use Rattle.image.specs.Image.{loadOf}
 use Rattle.image.proofs.Keeps.{load-keeps, load-refused}
 use Rattle.image.proofs.Back.{loadedAs, save-then-load}
 use Rattle.history.specs.History.{take, force, opened, Sent, takenIn, givenOut, count, countHeld, next, MayPass, Ordered}
-use Rattle.history.specs.Chain.{Call, offer, give, close, small, asked, Log, start, loaded, answered, noted, standing, mine, Saved, Chain, begins, asks, loads-own, loads-other, loads-none, closing, rowCall, replay}
+use Rattle.history.specs.Chain.{Call, offer, give, close, small, asked, Log, start, loaded, answered, noted, restoredFrom, mine, Saved, Chain, begins, asks, loads-own, loads-other, loads-none, closing, rowCall, replay}
 use Rattle.history.proofs.Sound as sound
 use Rattle.history.proofs.Sound.{sound-restored, is-due}
 use Rattle.history.proofs.Steps.{Led}
@@ -61,7 +61,7 @@ good-asked {l} {t} g o s c w = record { keeps = move-keeps (asked-moves t o s c 
 good-loaded : (u : Table) → keepsTable u ≡ true → Good (loaded u) u
 good-loaded u e = record { keeps = e; each = λ k. go k (rowFor k u) refl }
   where
-    go : (k : Key) (x : Option Row) → rowFor k u ≡ x → On (standing x) x
+    go : (k : Key) (x : Option Row) → rowFor k u ≡ x → On (restoredFrom x) x
     go k none q = refl
     go k (just r) q = record { sound = sound-restored (streamOf r) (kept-row r (row-keeps k u r e q) .stream); is = refl }
 

@@ -26,7 +26,7 @@ use Rattle.streams.specs.Table.{keepsSlot, hasKey, keepsTable}
 use Rattle.streams.specs.Calls.{offerBy, takeBy, forceBy, closeBy}
 use Rattle.streams.specs.Meaning.{rowIn, rowFor}
 use Rattle.streams.proofs.Lookups.{kept}
-use Rattle.streams.proofs.Places.{as-key, used-key}
+use Rattle.streams.proofs.Places.{as-key, open-key}
 use Rattle.streams.proofs.Moves.{Move, offer-moves, take-moves, force-moves, close-moves}
 use Rattle.streams.proofs.Alone as alone
 use Rattle.streams.proofs.Alone.{Does, named-is}
@@ -52,7 +52,7 @@ as-row j k t e = go (t .slots)
 -- a row of a table that keeps the rules keeps its own
 open-keeps : (k : Key) (x : Slot) → hasKey k x ≡ true → keepsSlot x ≡ true → keepsRow (x .row) ≡ true
 unfolding keepsSlot
-open-keeps k x h g = and-right (keepsKey (x .key)) _ (sym (if-yes _ _ _ (used-key k x h)) ∙ g)
+open-keeps k x h g = and-right (keepsKey (x .key)) _ (sym (if-yes _ _ _ (open-key k x h)) ∙ g)
 
 row-in-keeps : (k : Key) (r : Row) (l : List Slot) → every keepsSlot l ≡ true → rowIn k l ≡ just r → keepsRow r ≡ true
 row-in-keeps k r [] g q = let z : _≡_ {A = ℕ} 0 1 = cc in absurd (omega arith)

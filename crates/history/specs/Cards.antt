@@ -61,8 +61,8 @@ plays (saves image ∷ l) t = same (imageOf t) image and plays l t
 plays (loads image ∷ l) t = then-on (loadOf t image) accepted (plays l)
 
 -- the image of an empty table, and that of one row
-abbrev pub noRows : List ℕ
-noRows = 0x53 ∷ 0x45 ∷ 0x00 ∷ []
+abbrev pub emptyImage : List ℕ
+emptyImage = 0x53 ∷ 0x45 ∷ 0x00 ∷ []
 
 abbrev pub oneRow : List ℕ
 oneRow =
@@ -99,5 +99,5 @@ cards =
     -- 8. Offer 2 to 16: accepted; 17: 12; 1: accepted.
     ∷ offers 2 15 (offer 17 0 0 (refused 12) ∷ offer 1 0 0 accepted ∷ [])
     -- 9. The two images of "The saved table", saved and loaded.
-    ∷ (saves noRows ∷ offer 2 600 1000 accepted ∷ saves oneRow ∷ loads noRows ∷ rows 0 ∷ loads oneRow ∷ row 1 1000 ∷ saves oneRow ∷ [])
+    ∷ (saves emptyImage ∷ offer 2 600 1000 accepted ∷ saves oneRow ∷ loads emptyImage ∷ rows 0 ∷ loads oneRow ∷ row 1 1000 ∷ saves oneRow ∷ [])
     ∷ []

@@ -74,14 +74,14 @@ noted h c (given n slip) = onGiven h c n slip
 noted h c nothing = onNothing h c
 noted h c (refused n) = h
 
-abbrev pub standing : Option Row → History
-standing none = opened
-standing (some r) = restored (streamOf r)
+abbrev pub restoredFrom : Option Row → History
+restoredFrom none = opened
+restoredFrom (some r) = restored (streamOf r)
 
 -- the history of the stream of a key, since its row opened
 abbrev pub mine : Key → Log → History
 mine k start = opened
-mine k (loaded t) = standing (rowFor k t)
+mine k (loaded t) = restoredFrom (rowFor k t)
 mine k (answered l o s c a) = if sameKey k (namedOf o s .key) then noted (mine k l) c a else mine k l
 
 -- ---- the chain

@@ -29,7 +29,7 @@ use Rattle.image.specs.Image.{endRecord, openCount, slotFrom, slotsFrom,
 
 count-most : (l : List Slot) → openCount l ≤ length l
 count-most [] = omega arith
-count-most (x ∷ l) = go (x .used) (count-most l)
+count-most (x ∷ l) = go (x .«is_open») (count-most l)
   where
     go : (b : Bool) → openCount l ≤ length l → (if b then 1 else 0) + openCount l ≤ suc (length l)
     go true h = omega arith

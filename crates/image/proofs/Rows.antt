@@ -29,15 +29,15 @@ use Rattle.image.specs.Image.{rowMark, endRecord, recordOf, recordsFrom,
 
 -- an open row with a key and a row that keep theirs, or a free row
 pub record Open (x : Slot) : Type 0 where
-  pub used : x .used ≡ true
+  pub used : x .«is_open» ≡ true
   pub key : keepsKey (x .key) ≡ true
   pub row : keepsRow (x .row) ≡ true
 
 pub open-or-free : (x : Slot) → keepsSlot x ≡ true → Open x ⊎ (x ≡ freeSlot)
 unfolding keepsSlot
-open-or-free x e = go (x .used) refl
+open-or-free x e = go (x .«is_open») refl
   where
-    go : (b : Bool) → x .used ≡ b → Open x ⊎ (x ≡ freeSlot)
+    go : (b : Bool) → x .«is_open» ≡ b → Open x ⊎ (x ≡ freeSlot)
     go true u =
         let f = sym (if-yes _ _ _ u) ∙ e in
         inl (record { used = u; key = and-left (keepsKey (x .key)) _ f; row = and-right (keepsKey (x .key)) _ f })
@@ -45,7 +45,7 @@ open-or-free x e = go (x .used) refl
         let f = sym (if-no _ _ _ u) ∙ e in
         let k = no-key (x .key) (and-left (isNoKey (x .key)) _ f) in
         let r = no-row (x .row) (and-right (isNoKey (x .key)) _ f) in
-        inr (λ i. record { used = u i; key = k i; row = r i })
+        inr (λ i. record { «is_open» = u i; key = k i; row = r i })
 
 -- ---- marks
 
@@ -57,7 +57,7 @@ marked-own i s = rw (eq-eqb i i refl)
 unmarked : (l : List Slot) (i j n : ℕ) → j < i → same (take 3 (recordsFrom i l ++ endRecord n)) (rowMark j) ≡ false
 unfolding same
 unmarked [] i j n h = refl
-unmarked (x ∷ l) i j n h = go (x .used) (unmarked l (i + 1) j n (omega arith))
+unmarked (x ∷ l) i j n h = go (x .«is_open») (unmarked l (i + 1) j n (omega arith))
   where
     go : (b : Bool) → same (take 3 (recordsFrom (i + 1) l ++ endRecord n)) (rowMark j) ≡ false
         → same (take 3 (((if b then rowMark i ++ body .print (x .key, x .row) else []) ++ recordsFrom (i + 1) l) ++ endRecord n)) (rowMark j) ≡ false
@@ -66,11 +66,11 @@ unmarked (x ∷ l) i j n h = go (x .used) (unmarked l (i + 1) j n (omega arith))
 
 -- ---- what is written is read back
 
-printed : (x : Slot) (i : ℕ) → x .used ≡ true → recordOf i x ≡ rowMark i ++ body .print (x .key, x .row)
+printed : (x : Slot) (i : ℕ) → x .«is_open» ≡ true → recordOf i x ≡ rowMark i ++ body .print (x .key, x .row)
 printed x i e = if-yes _ _ _ e
 
-reopened : (x : Slot) → x .used ≡ true → openSlot (x .key, x .row) ≡ x
-reopened x e = λ i. record { used = sym e i; key = x .key; row = x .row }
+reopened : (x : Slot) → x .«is_open» ≡ true → openSlot (x .key, x .row) ≡ x
+reopened x e = λ i. record { «is_open» = sym e i; key = x .key; row = x .row }
 
 slot-back : (x : Slot) (i : ℕ) (s : List ℕ) → keepsSlot x ≡ true → same (take 3 s) (rowMark i) ≡ false → slotFrom i (recordOf i x ++ s) ≡ got x (length (recordOf i x))
 slot-back x i s e q = go (open-or-free x e)

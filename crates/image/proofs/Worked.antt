@@ -20,7 +20,7 @@ abbrev oneRow : Table
 oneRow =
     withSlot empty 0
     (record {
-      used = true;
+      «is_open» = true;
       key = keyOf (0x47 ∷ 0x30 ∷ 0x4F ∷ 0x52 ∷ 0x49 ∷ 0x47 ∷ []) (0x63 ∷ 0x68 ∷ 0x61 ∷ 0x74 ∷ []);
       row = rowOf (record { expected = 1; clock = 1000; gapStart = 1000; held = record { number = 2; timeout = 600; slip = 9 } ∷ [] });
     })

@@ -25,24 +25,24 @@ use Rattle.image.proofs.Size.{image-size}
 -- ---- one record
 
 module _ (i : ℕ) (x : Slot) where
-  pub free-record : x .used ≡ false → recordOf i x ≡ []
+  pub free-record : x .«is_open» ≡ false → recordOf i x ≡ []
   free-record e = if-no _ _ _ e
 
-  pub open-record : x .used ≡ true → recordOf i x ≡ rowMark i ++ body .print (x .key, x .row)
+  pub open-record : x .«is_open» ≡ true → recordOf i x ≡ rowMark i ++ body .print (x .key, x .row)
   open-record e = if-yes _ _ _ e
 
   -- the row number has no part in the size
   record-length : length (recordOf i x) ≡ length (recordOf 0 x)
-  record-length = go (x .used)
+  record-length = go (x .«is_open»)
     where
       go : (b : Bool) → length (if b then rowMark i ++ body .print (x .key, x .row) else []) ≡ length (if b then rowMark 0 ++ body .print (x .key, x .row) else [])
       go true = refl
       go false = refl
 
-  pub record-free : (at : ℕ) (l : List ℕ) → x .used ≡ false → at + length (recordOf i x) ≤ length l → l ≡ placed (recordOf i x) at l
+  pub record-free : (at : ℕ) (l : List ℕ) → x .«is_open» ≡ false → at + length (recordOf i x) ≤ length l → l ≡ placed (recordOf i x) at l
   record-free at l e h = sym (ap (λ (w : List ℕ). placed w at l) (free-record e) ∙ placed-none at l (omega arith))
 
-  pub record-placed : (at : ℕ) (l y z : List ℕ) → x .used ≡ true → at + length (recordOf i x) ≤ length l → y ≡ placed (rowMark i) at l → z ≡ placed (body .print (x .key, x .row)) (at + 3) y → z ≡ placed (recordOf i x) at l
+  pub record-placed : (at : ℕ) (l y z : List ℕ) → x .«is_open» ≡ true → at + length (recordOf i x) ≤ length l → y ≡ placed (rowMark i) at l → z ≡ placed (body .print (x .key, x .row)) (at + 3) y → z ≡ placed (recordOf i x) at l
   record-placed at l y z e h p q =
       let s : length (recordOf i x) ≡ 3 + length (body .print (x .key, x .row)) = ap length (open-record e) ∙ (omega arith) in
       behind (rowMark i) (body .print (x .key, x .row)) at (at + 3) l y z p q refl (omega arith) ∙ ap (λ (w : List ℕ). placed w at l) (sym (open-record e))

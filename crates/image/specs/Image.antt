@@ -24,7 +24,7 @@ endRecord rows = 0x53 ∷ 0x45 ∷ rows ∷ []
 
 -- row i's record, where the row is open
 abbrev pub recordOf : ℕ → Slot → List ℕ
-recordOf i x = if x .used then rowMark i ++ body .print (x .key, x .row) else []
+recordOf i x = if x .«is_open» then rowMark i ++ body .print (x .key, x .row) else []
 
 -- the records of the rows from i on, in row order
 abbrev pub recordsFrom : ℕ → List Slot → List ℕ

@@ -14,7 +14,7 @@ fn record_size(slot: Slot) -> usize
     requires { ⌜ keepsSlot slot ≡ true ⌝ }
     ensures { λ r. ⌜ (r ≡ length (recordOf 0 slot)) × (r ≤ 481) ⌝ }
 {
-    if !slot.used {
+    if !slot.is_open {
         return 0;
     }
     let key = slot.key;
@@ -41,7 +41,7 @@ fn put_record(x: Slot, i: u8, out: &mut [u8], at: usize)
     requires { ⌜ at + length (recordOf i x) ≤ length (now out) ⌝ }
     ensures { λ _. ⌜ now (out .exit) ≡ placed (recordOf i x) at (now (out .entry)) ⌝ }
 {
-    if !x.used {
+    if !x.is_open {
         return;
     }
     let key = x.key;

@@ -65,7 +65,7 @@ module _ (i : ℕ) (s : List ℕ) where
       pub slot-bad : r .good ≡ false → slotFrom i s ≡ bad
       slot-bad t = if-yes _ _ _ m ∙ rw (record-missed (body .parse (drop 3 s)) r er′ t)
 
-      pub slot-got : r .good ≡ true → slotFrom i s ≡ got (record { used = true; key = r .key; row = r .row }) (3 + r .used)
+      pub slot-got : r .good ≡ true → slotFrom i s ≡ got (record { «is_open» = true; key = r .key; row = r .row }) (3 + r .used)
       slot-got t = if-yes _ _ _ m ∙ rw (record-found (body .parse (drop 3 s)) r er′ t)
 
       pub slot-room : r .good ≡ true → 3 + r .used ≤ length s

@@ -18,7 +18,7 @@ rowMark i = 0x53 ∷ 0x54 ∷ i ∷ []
 
 -- a record's key and row, in an open row
 abbrev pub openSlot : Key × Row → Slot
-openSlot x = record { used = true; key = x .0; row = x .1 }
+openSlot x = record { «is_open» = true; key = x .0; row = x .1 }
 
 -- row i: the record where the mark with its number stands, else free
 abbrev pub slotFrom : ℕ → List ℕ → Res Slot

@@ -48,7 +48,7 @@ pub(crate) fn read_slot(d: &[u8], i: u8) -> SlotRead
         good: true,
         used: 3 + r.used,
         slot: Slot {
-            used: true,
+            is_open: true,
             key: key,
             row: row,
         },

@@ -18,7 +18,7 @@ use Rattle.line_fields.specs.Fields.{fieldsOf, groupsGood, noValues, goodValues
 use Rattle.line_fields.specs.declared.Values.{Values}
 use Rattle.line_frame.specs.Frame.{lineHead}
 use Rattle.line_frame.proofs.Frames.{head-good, head-says}
-use Rattle.line.specs.Reading.{idWord, restOf, lineOf, wellFormed, chkRight, refusalOf, Outcome, Read, says, answered, readOf}
+use Rattle.line.specs.Reading.{idWord, restOf, lineOf, wellFormed, chkRight, refusalOf, Outcome, Read, says, readAs, readOf}
 use Rattle.line.specs.Steps.{rightChk, refusedBy}
 use Rattle.line.specs.declared.LineAnswer.{LineAnswer}
 use Rattle.line.proofs.Distinct.{headGood, well-is}
@@ -38,7 +38,7 @@ module _ (s : List ℕ) where
 
   refused : (n : ℕ) → refusalOf s ≡ suc n → (r : LineAnswer) → r ≡ refusedBy (suc n) → says r ≡ readOf s
   unfolding readOf
-  refused n e r q = ap says q ∙ ap (λ (k : ℕ). answered k (lineOf s)) (sym e)
+  refused n e r q = ap says q ∙ ap (λ (k : ℕ). readAs k (lineOf s)) (sym e)
 
   malformed : wellFormed s ≡ false → (r : LineAnswer) → r ≡ refusedBy 1 → says r ≡ readOf s
   unfolding refusalOf
@@ -110,4 +110,4 @@ module _ (s : List ℕ) where
 
         pub line-read : n ≡ 0 → record { reading = Read; line = record { len = v .len; fields = v .fields } } ≡ readOf s
         unfolding readOf lineOf
-        line-read e = line-same (v .len) (lineOf s .len) (v .fields) (lineOf s .fields) len-is fields-are ∙ ap (λ (k : ℕ). answered k (lineOf s)) (sym (number-is ∙ e))
+        line-read e = line-same (v .len) (lineOf s .len) (v .fields) (lineOf s .fields) len-is fields-are ∙ ap (λ (k : ℕ). readAs k (lineOf s)) (sym (number-is ∙ e))

@@ -71,9 +71,9 @@ unfoldable pub blankLine : Line
 blankLine = record { len = 0; fields = blankEnvelope }
 
 -- by the number that refuses the line
-abbrev pub answered : ℕ → Line → Outcome
-answered zero m = record { reading = Read; line = m }
-answered (suc n) m = record { reading = Refused (suc n); line = blankLine }
+abbrev pub readAs : ℕ → Line → Outcome
+readAs zero m = record { reading = Read; line = m }
+readAs (suc n) m = record { reading = Refused (suc n); line = blankLine }
 
 unfoldable pub readOf : List ℕ → Outcome
-readOf s = answered (refusalOf s) (lineOf s)
+readOf s = readAs (refusalOf s) (lineOf s)

@@ -77,8 +77,8 @@ unfoldable pub printOf : Line → List ℕ
 printOf m = bodyOf m ++ spaced (wordOf (chkToken (bodyOf m)) ∷ [])
 
 -- and with it, as it goes into a lent buffer
-abbrev pub written : Line → List ℕ
-written m = printOf m ++ (0x0A ∷ [])
+abbrev pub lineWritten : Line → List ℕ
+lineWritten m = printOf m ++ (0x0A ∷ [])
 
 -- which messages can be written: by the rules that the reader tests, and in at most 512 bytes
 unfoldable pub messageGood : Line → Bool
@@ -86,4 +86,4 @@ messageGood m = lineGood (envelope (m .fields)) (m .len) (length (printOf m))
 
 -- the number that refuses the writing into a buffer of `room` bytes, the lowest first; 0 where none does
 unfoldable pub writeRefusal : Line → ℕ → ℕ
-writeRefusal m room = refusesWriting (messageGood m) (m .len) (length (written m)) room
+writeRefusal m room = refusesWriting (messageGood m) (m .len) (length (lineWritten m)) room

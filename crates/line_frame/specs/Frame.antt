@@ -9,12 +9,9 @@ use Rattle.utf8.specs.Utf8.{utf8}
 use Rattle.text.specs.Hex.{isHex}
 use Rattle.tokens.specs.Cuts.{before, after}
 use Rattle.tokens.specs.Tokens.{keyed, space}
+pub use Rattle.tokens.specs.Tokens.{ihave}
 use Rattle.line_values.specs.Values.{masterOf}
 use Rattle.line_values.specs.declared.Master.{Master}
-
--- `ihave`: i h a v e, byte by byte
-abbrev pub ihave : List ℕ
-ihave = 105 ∷ 104 ∷ 97 ∷ 118 ∷ 101 ∷ []
 
 abbrev pub verbWord : List ℕ → List ℕ
 verbWord s = before space s

@@ -8,7 +8,7 @@ use lib.ListN.{length, getD, set, take, drop, replicate}
 use borrow.Author.Tests.{ltb-true, lt-ltb, le-ltb, eqb-true, eqb-false, lt-leb}
 use Rattle.octets.specs.Words.{_and_, no, _=?_, _<?_, _≤?_}
 use Rattle.octets.proofs.Tests.{if-no, and-left, true-not-false}
-use Rattle.names.specs.Reserved.{reserved, placeOf}
+use Rattle.names.specs.Reserved.{reserved, keyPlace}
 use Rattle.names.proofs.Reserved.{reserved-place}
 use Rattle.headers.specs.declared.Header.{Header}
 use Rattle.headers.specs.declared.Headers.{Headers}
@@ -63,15 +63,15 @@ module _ (t : List ℕ) (slots : List Place) (h : Headers) (at : ℕ) (r : Walke
   pub turn-cut : b ≡ true → n < length w
   turn-cut good = lt-of n (length w) (omega (arith, before-short equals w)) (eqb-false n (length w) (told (getD slots 5 noPlace .given) (n =? length w) (sym is-b ∙ good) .1))
 
-  module _ (good : b ≡ true) (x : List ℕ) (is-key : x ≡ take (n - 0) (drop 0 w)) (k : ℕ) (is-k : k ≡ placeOf x) where
+  module _ (good : b ≡ true) (x : List ℕ) (is-key : x ≡ take (n - 0) (drop 0 w)) (k : ℕ) (is-k : k ≡ keyPlace x) where
     both : (getD slots 5 noPlace .given ≡ false) × ((n =? length w) ≡ false)
     both = told (getD slots 5 noPlace .given) (n =? length w) (sym is-b ∙ good)
 
     key-is : x ≡ before equals w
     key-is = is-key ∙ part-before equals w n is-n
 
-    place-is : k ≡ placeOf (before equals w)
-    place-is = is-k ∙ ap placeOf key-is
+    place-is : k ≡ keyPlace (before equals w)
+    place-is = is-k ∙ ap keyPlace key-is
 
     module _ (m : k < 13) where
       is-reserved : reserved (before equals w) ≡ true

@@ -11,7 +11,7 @@ use Rattle.octets.specs.Words.{if_then_else_, _and_, _or_, no, _=?_, _<?_, ever
 use Rattle.octets.specs.Bytes.{same}
 use Rattle.octets.proofs.Lists.{same-eq, same-refl}
 use Rattle.octets.proofs.Tests.{if-yes, if-no, and-both, and-next, and-not-left, and-not-right, no-true, no-false, true-not-false}
-use Rattle.names.specs.Reserved.{reserved, reservedKeys, placeOf, keyChk}
+use Rattle.names.specs.Reserved.{reserved, reservedKeys, keyPlace, keyChk}
 use Rattle.names.proofs.Reserved.{reserved-place, key-at, place-back, counts}
 use Rattle.headers.specs.Keys.{allDiffer}
 use Rattle.headers.specs.declared.Headers.{Headers}
@@ -33,7 +33,7 @@ keysIn ws = keys (map tokenOf ws)
 
 -- the slot of a key was not taken yet; that of every key, and no key comes again
 unfoldable pub free : List Place → List ℕ → Bool
-free slots k = no (getD slots (placeOf k) noPlace .given)
+free slots k = no (getD slots (keyPlace k) noPlace .given)
 
 abbrev fresh : List Place → List (List ℕ) → Bool
 fresh slots ks = every (free slots) ks and allDiffer ks
@@ -61,11 +61,11 @@ pub record Walked (all : List (List ℕ)) (slots : List Place) (h : Headers) (at
 all-free : (ks : List (List ℕ)) → every (free (replicate 13 noPlace)) ks ≡ true
 unfolding free
 all-free [] = refl
-all-free (k ∷ ks) = and-both (free (replicate 13 noPlace) k) _ (no-false _ (go (placeOf k <? 13) refl)) (all-free ks)
+all-free (k ∷ ks) = and-both (free (replicate 13 noPlace) k) _ (no-false _ (go (keyPlace k <? 13) refl)) (all-free ks)
   where
-    go : (b : Bool) → (placeOf k <? 13) ≡ b → getD (replicate 13 noPlace) (placeOf k) noPlace .given ≡ false
-    go true e = ap (λ (p : Place). p .given) (getD-replicate 13 (placeOf k) noPlace noPlace (ltb-true (placeOf k) 13 e))
-    go false e = ap (λ (p : Place). p .given) (List·getD-eq-default (replicate 13 noPlace) noPlace {n = placeOf k} (omega (arith, length-replicate 13 noPlace, ltb-false (placeOf k) 13 e)))
+    go : (b : Bool) → (keyPlace k <? 13) ≡ b → getD (replicate 13 noPlace) (keyPlace k) noPlace .given ≡ false
+    go true e = ap (λ (p : Place). p .given) (getD-replicate 13 (keyPlace k) noPlace noPlace (ltb-true (keyPlace k) 13 e))
+    go false e = ap (λ (p : Place). p .given) (List·getD-eq-default (replicate 13 noPlace) noPlace {n = keyPlace k} (omega (arith, length-replicate 13 noPlace, ltb-false (keyPlace k) 13 e)))
 
 pub walk-start : (all : List (List ℕ)) (none : Place) (h : Headers) → none ≡ noPlace → h ≡ noHeaders → Walked all (replicate 13 none) h 0 all
 walk-start all none h is-none is-h = rw (is-none, is-h) (record {
@@ -109,12 +109,12 @@ fit-told true g h e = (refl, ap (λ (x : Gathered). x .headers) e)
 fit-told false g h e = true-not-false false (ap (λ (x : Gathered). x .fit) e) refl
 
 -- the key at a place is no other key
-at-differs : (i : ℕ) (k : List ℕ) → i < 13 → (placeOf k ≡ i → ⊥) → same (keyAt i) k ≡ false
+at-differs : (i : ℕ) (k : List ℕ) → i < 13 → (keyPlace k ≡ i → ⊥) → same (keyAt i) k ≡ false
 at-differs i k l d = go (same (keyAt i) k) refl
   where
     go : (b : Bool) → same (keyAt i) k ≡ b → b ≡ false
     go false e = refl
-    go true e = absurd (d (ap placeOf (sym (same-eq (keyAt i) k e)) ∙ place-back i l))
+    go true e = absurd (d (ap keyPlace (sym (same-eq (keyAt i) k e)) ∙ place-back i l))
 
 module _ (all : List (List ℕ)) (slots : List Place) (h : Headers) (at : ℕ) (w : List ℕ) (ws : List (List ℕ)) (r : Walked all slots h at (w ∷ ws)) where
   abbrev key : List ℕ
@@ -130,7 +130,7 @@ module _ (all : List (List ℕ)) (slots : List Place) (h : Headers) (at : ℕ) (
   pub chk-before : getD slots 5 noPlace .given ≡ true → lastOnly keyChk (keysIn all) ≡ false
   chk-before e = r .last ∙ if-yes _ _ _ e
 
-  pub key-again : reserved key ≡ true → getD slots (placeOf key) noPlace .given ≡ true → allDiffer (reservedAmong (keysIn all)) ≡ false
+  pub key-again : reserved key ≡ true → getD slots (keyPlace key) noPlace .given ≡ true → allDiffer (reservedAmong (keysIn all)) ≡ false
   unfolding reservedAmong free
   key-again e f = r .once ∙ rw e (and-not-left _ _ (and-not-left _ _ (no-true _ f)))
 
@@ -141,11 +141,11 @@ module _ (all : List (List ℕ)) (slots : List Place) (h : Headers) (at : ℕ) (
       unfit-told (headersFit (map tokenOf all)) (headersOf (others (map tokenOf all))) g
 
   -- what stays as it was, where the word's key is not the one asked for
-  place-past : (i : ℕ) → i < 13 → (placeOf key ≡ i → ⊥) → placeFrom at (w ∷ ws) (keyAt i) ≡ placeFrom next ws (keyAt i)
+  place-past : (i : ℕ) → i < 13 → (keyPlace key ≡ i → ⊥) → placeFrom at (w ∷ ws) (keyAt i) ≡ placeFrom next ws (keyAt i)
   unfolding placeFrom
   place-past i l d = if-no _ _ _ (at-differs i key l d)
 
-  last-past : (placeOf key ≡ 5 → ⊥) → lastOnly keyChk (keysIn (w ∷ ws)) ≡ lastOnly keyChk (keysIn ws)
+  last-past : (keyPlace key ≡ 5 → ⊥) → lastOnly keyChk (keysIn (w ∷ ws)) ≡ lastOnly keyChk (keysIn ws)
   unfolding lastOnly reservedKeys
   last-past d = rw (at-differs 5 key (omega arith) d)
 
@@ -157,7 +157,7 @@ module _ (all : List (List ℕ)) (slots : List Place) (h : Headers) (at : ℕ) (
     pub walk-header : reserved key ≡ false → h .count <? 8 and shortValue (tokenOf w) ≡ true → (g : Headers) → g ≡ withHeader h (headerOf (tokenOf w)) → Walked all slots g next ws
     unfolding reservedAmong gather pushOf
     walk-header e f g is-g =
-        let past = ltb-false (placeOf key) 13 (sym (reserved-place key) ∙ e) in
+        let past = ltb-false (keyPlace key) 13 (sym (reserved-place key) ∙ e) in
         record {
           long = r .long;
           blank = r .blank;
@@ -169,54 +169,54 @@ module _ (all : List (List ℕ)) (slots : List Place) (h : Headers) (at : ℕ) (
         }
 
     -- a reserved key more
-    module _ (e : reserved key ≡ true) (f : getD slots (placeOf key) noPlace .given ≡ false) where
+    module _ (e : reserved key ≡ true) (f : getD slots (keyPlace key) noPlace .given ≡ false) where
       abbrev here : Place
       here = record { given = true; start = at + length key + 1; len = length (after equals w) }
 
       abbrev more : List Place
-      more = set slots (placeOf key) here
+      more = set slots (keyPlace key) here
 
-      inside : placeOf key < 13
-      inside = ltb-true (placeOf key) 13 (sym (reserved-place key) ∙ e)
+      inside : keyPlace key < 13
+      inside = ltb-true (keyPlace key) 13 (sym (reserved-place key) ∙ e)
 
-      more-here : getD more (placeOf key) noPlace ≡ here
-      more-here = getD-set-same slots (placeOf key) here noPlace (omega (arith, r .long, inside))
+      more-here : getD more (keyPlace key) noPlace ≡ here
+      more-here = getD-set-same slots (keyPlace key) here noPlace (omega (arith, r .long, inside))
 
-      more-other : (i : ℕ) → (placeOf key ≡ i → ⊥) → getD more i noPlace ≡ getD slots i noPlace
-      more-other i d = getD-set-other slots (placeOf key) i here noPlace (λ q. d (sym q))
+      more-other : (i : ℕ) → (keyPlace key ≡ i → ⊥) → getD more i noPlace ≡ getD slots i noPlace
+      more-other i d = getD-set-other slots (keyPlace key) i here noPlace (λ q. d (sym q))
 
-      more-slot : (i : ℕ) → i < 13 → (b : Bool) → (placeOf key =? i) ≡ b → placeFrom 0 all (keyAt i) ≡ found (getD more i noPlace) (placeFrom next ws (keyAt i))
+      more-slot : (i : ℕ) → i < 13 → (b : Bool) → (keyPlace key =? i) ≡ b → placeFrom 0 all (keyAt i) ≡ found (getD more i noPlace) (placeFrom next ws (keyAt i))
       unfolding placeFrom
       more-slot i l true q =
-          let s = eqb-true (placeOf key) i q in
+          let s = eqb-true (keyPlace key) i q in
           let k : keyAt i ≡ key = ap keyAt (sym s) ∙ key-at key inside in
           r .slot i l
           ∙ if-no _ _ _ (ap (λ (j : ℕ). getD slots j noPlace .given) (sym s) ∙ f)
           ∙ if-yes _ _ _ (ap (λ (x : List ℕ). same x key) k ∙ same-refl key)
           ∙ sym (ap (λ (j : ℕ). found (getD more j noPlace) (placeFrom next ws (keyAt i))) (sym s) ∙ ap (λ (p : Place). found p (placeFrom next ws (keyAt i))) more-here)
       more-slot i l false q =
-          let d = eqb-false (placeOf key) i q in
+          let d = eqb-false (keyPlace key) i q in
           r .slot i l ∙ ap (found (getD slots i noPlace)) (place-past i l d) ∙ ap (λ (p : Place). found p (placeFrom next ws (keyAt i))) (sym (more-other i d))
 
-      more-blank : (i : ℕ) → (b : Bool) → (placeOf key =? i) ≡ b → getD more i noPlace .given ≡ false → i < 13 → getD more i noPlace ≡ noPlace
+      more-blank : (i : ℕ) → (b : Bool) → (keyPlace key =? i) ≡ b → getD more i noPlace .given ≡ false → i < 13 → getD more i noPlace ≡ noPlace
       more-blank i true q g l =
-          true-not-false (getD more i noPlace .given) (ap (λ (j : ℕ). getD more j noPlace .given) (sym (eqb-true (placeOf key) i q)) ∙ ap (λ (p : Place). p .given) more-here) g
+          true-not-false (getD more i noPlace .given) (ap (λ (j : ℕ). getD more j noPlace .given) (sym (eqb-true (keyPlace key) i q)) ∙ ap (λ (p : Place). p .given) more-here) g
       more-blank i false q g l =
-          let d = eqb-false (placeOf key) i q in
+          let d = eqb-false (keyPlace key) i q in
           more-other i d ∙ r .blank i (ap (λ (p : Place). p .given) (sym (more-other i d)) ∙ g) l
 
       free-more : (x : List ℕ) → free more x ≡ free slots x and no (same key x)
       unfolding free
       free-more x = go (same key x) refl
         where
-          go : (b : Bool) → same key x ≡ b → no (getD more (placeOf x) noPlace .given) ≡ no (getD slots (placeOf x) noPlace .given) and no b
+          go : (b : Bool) → same key x ≡ b → no (getD more (keyPlace x) noPlace .given) ≡ no (getD slots (keyPlace x) noPlace .given) and no b
           go true q =
-              ap (λ (k : List ℕ). no (getD more (placeOf k) noPlace .given)) (sym (same-eq key x q))
+              ap (λ (k : List ℕ). no (getD more (keyPlace k) noPlace .given)) (sym (same-eq key x q))
               ∙ ap (λ (p : Place). no (p .given)) more-here
-              ∙ sym (and-not-right (no (getD slots (placeOf x) noPlace .given)) false refl)
+              ∙ sym (and-not-right (no (getD slots (keyPlace x) noPlace .given)) false refl)
           go false q =
-              let d : placeOf key ≡ placeOf x → ⊥ = λ s. true-not-false (same key x) (ap (same key) (sym (key-at x (rw s at inside)) ∙ ap keyAt (sym s) ∙ key-at key inside) ∙ same-refl key) q in
-              ap (λ (p : Place). no (p .given)) (more-other (placeOf x) d) ∙ sym (and-true (no (getD slots (placeOf x) noPlace .given)))
+              let d : keyPlace key ≡ keyPlace x → ⊥ = λ s. true-not-false (same key x) (ap (same key) (sym (key-at x (rw s at inside)) ∙ ap keyAt (sym s) ∙ key-at key inside) ∙ same-refl key) q in
+              ap (λ (p : Place). no (p .given)) (more-other (keyPlace x) d) ∙ sym (and-true (no (getD slots (keyPlace x) noPlace .given)))
 
       every-more : (ks : List (List ℕ)) → every (free more) ks ≡ every (free slots) ks and no (some (same key) ks)
       every-more [] = refl
@@ -233,28 +233,28 @@ module _ (all : List (List ℕ)) (slots : List Place) (h : Headers) (at : ℕ) (
           ∙ regroup (every (free slots) ks) (no (some (same key) ks)) (allDiffer ks)
           ∙ ap (λ (b : Bool). b and allDiffer ks) (sym (every-more ks))
 
-      last-more : (b : Bool) → (placeOf key =? 5) ≡ b → lastOnly keyChk (keysIn (w ∷ ws)) ≡ lastIn (getD more 5 noPlace .given) (keysIn ws)
+      last-more : (b : Bool) → (keyPlace key =? 5) ≡ b → lastOnly keyChk (keysIn (w ∷ ws)) ≡ lastIn (getD more 5 noPlace .given) (keysIn ws)
       unfolding lastOnly reservedKeys
       last-more true q =
-          let s = eqb-true (placeOf key) 5 q in
+          let s = eqb-true (keyPlace key) 5 q in
           let k : keyChk ≡ key = ap keyAt (sym s) ∙ key-at key inside in
           ap (λ (x : List ℕ). (no (same x key) or none (keysIn ws)) and lastOnly keyChk (keysIn ws)) k
           ∙ ap (λ (b : Bool). (no b or none (keysIn ws)) and lastOnly keyChk (keysIn ws)) (same-refl key)
           ∙ none-last (keysIn ws)
           ∙ sym (if-yes _ _ _ (ap (λ (j : ℕ). getD more j noPlace .given) (sym s) ∙ ap (λ (p : Place). p .given) more-here))
       last-more false q =
-          let d = eqb-false (placeOf key) 5 q in
+          let d = eqb-false (keyPlace key) 5 q in
           last-past d ∙ sym (if-no _ _ _ (ap (λ (p : Place). p .given) (more-other 5 d) ∙ c))
 
       pub walk-reserved : Walked all more h next ws
       unfolding reservedAmong gather pushOf
       walk-reserved = record {
-        long = length-set slots (placeOf key) here ∙ r .long;
-        blank = λ i. more-blank i (placeOf key =? i) refl;
-        slot = λ i l. more-slot i l (placeOf key =? i) refl;
+        long = length-set slots (keyPlace key) here ∙ r .long;
+        blank = λ i. more-blank i (keyPlace key =? i) refl;
+        slot = λ i l. more-slot i l (keyPlace key =? i) refl;
         assigned = assigned-past;
         once = r .once ∙ ap (fresh slots) (if-yes _ _ _ e) ∙ once-more (reservedAmong (keysIn ws));
-        last = r .last ∙ if-no _ _ _ c ∙ last-more (placeOf key =? 5) refl;
+        last = r .last ∙ if-no _ _ _ c ∙ last-more (keyPlace key =? 5) refl;
         heads = r .heads ∙ ap (λ (x : Gathered). gather x (map tokenOf ws)) (if-yes _ _ _ e);
       }
 

@@ -29,7 +29,7 @@ use Rattle.line_values.specs.Values.{slash, isPart}
 use Rattle.line_groups.specs.Rules.{alike, allOrNone, optional, deflated, payloadGood, singlesGood, fragmentGood, streamGood}
 use Rattle.line_groups.specs.Answers.{lenOf}
 use Rattle.line_places.specs.Headers.{headersFit, headerOf, headersOf}
-use Rattle.line.specs.Reading.{idWord, restOf, isText, framed, fieldsOf, lineOf, valuesGood, wellFormed, chkRight, refusalOf, answered, readOf}
+use Rattle.line.specs.Reading.{idWord, restOf, isText, framed, fieldsOf, lineOf, valuesGood, wellFormed, chkRight, refusalOf, readAs, readOf}
 use Rattle.line_writer.specs.Answer.{Written, writeAnswer, writeLeft}
 use Rattle.line_trip.proofs.Message.{Typed}
 use Rattle.line_trip.proofs.Calls.{written-then-read}
@@ -241,4 +241,4 @@ module _ (s : List ℕ) (ok : refusalOf s ≡ 0) where
   unfolding readOf
   accepted-again buffer n e =
       written-then-read (lineOf s) buffer n accepted-typed e
-      ∙ rw accepted-tidy (ap (λ (k : ℕ). answered k (lineOf s)) (sym ok))
+      ∙ rw accepted-tidy (ap (λ (k : ℕ). readAs k (lineOf s)) (sym ok))

@@ -16,7 +16,7 @@ use Rattle.envelope.specs.Rules.{envelope}
 use Rattle.tokens.specs.Cuts.{before, after, split}
 use Rattle.tokens.specs.Tokens.{tokens, present, others}
 use Rattle.line.specs.Reading.{restOf, plain, isText, lineOf, refusalOf}
-use Rattle.line.specs.Writing.{printOf, written, messageGood, writeRefusal}
+use Rattle.line.specs.Writing.{printOf, lineWritten, messageGood, writeRefusal}
 use Rattle.line.specs.declared.Line.{Line}
 use Rattle.line_writer.specs.Answer.{Written, answerBy, leftBy, writeAnswer, writeLeft}
 use Rattle.line_trip.specs.Order.{InOrder}
@@ -33,15 +33,15 @@ module _ (m : Line) (buffer : List ℕ) (valid : envelope (m .fields) ≡ true) 
       let n = length-append (printOf m) (0x0A ∷ []) in
       if-no _ _ _ (no-true _ (and-both (envelope (m .fields)) _ valid (and-both (m .len ≤? 2147483647) _ (le-leb (m .len) 2147483647 (omega arith)) (le-leb (length (printOf m)) 512 short))))
       ∙ if-no _ _ _ (le-ltb longestPayload (m .len) small)
-      ∙ if-no _ _ _ (le-ltb (length buffer) (length (written m)) (omega arith))
+      ∙ if-no _ _ _ (le-ltb (length buffer) (length (lineWritten m)) (omega arith))
 
   pub valid-written : writeAnswer m buffer ≡ Written (length (printOf m) + 1)
   unfolding writeAnswer
-  valid-written = ap (λ (k : ℕ). answerBy k (length (written m))) none-refuses ∙ ap Written (length-append (printOf m) (0x0A ∷ []))
+  valid-written = ap (λ (k : ℕ). answerBy k (length (lineWritten m))) none-refuses ∙ ap Written (length-append (printOf m) (0x0A ∷ []))
 
-  pub valid-left : writeLeft m buffer ≡ front (written m) buffer
+  pub valid-left : writeLeft m buffer ≡ front (lineWritten m) buffer
   unfolding writeLeft
-  valid-left = ap (λ (k : ℕ). leftBy k (written m) buffer) none-refuses
+  valid-left = ap (λ (k : ℕ). leftBy k (lineWritten m) buffer) none-refuses
 
 -- an accepted line in the writer's order, with `chk`
 module _ (s : List ℕ) (ok : refusalOf s ≡ 0) (ordered : InOrder (tokens (restOf s))) (buffer : List ℕ) (room : length s < length buffer) where

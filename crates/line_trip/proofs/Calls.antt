@@ -7,7 +7,7 @@ use lib.ListN.{length, take, drop, length-append}
 use lib.Seq.{take-append-seam}
 use Rattle.octets.specs.Bytes.{front}
 use Rattle.line.specs.Reading.{readOf}
-use Rattle.line.specs.Writing.{printOf, written, writeRefusal}
+use Rattle.line.specs.Writing.{printOf, lineWritten, writeRefusal}
 use Rattle.line.specs.declared.Line.{Line}
 use Rattle.line_writer.specs.Answer.{Writing, Written, Refused, answerBy, leftBy, writeAnswer, writeLeft}
 use Rattle.line_trip.proofs.Message.{Typed}
@@ -32,10 +32,10 @@ pub written-then-read : (m : Line) (buffer : List ℕ) (n : ℕ) → Typed m →
 unfolding writeAnswer writeLeft
 written-then-read m buffer n typed e = go (writeRefusal m (length buffer)) refl e
   where
-    go : (k : ℕ) → writeRefusal m (length buffer) ≡ k → answerBy k (length (written m)) ≡ Written n
-        → readOf (take (n - 1) (leftBy k (written m) buffer)) ≡ readBack m
+    go : (k : ℕ) → writeRefusal m (length buffer) ≡ k → answerBy k (length (lineWritten m)) ≡ Written n
+        → readOf (take (n - 1) (leftBy k (lineWritten m) buffer)) ≡ readBack m
     go zero r h =
-        ap (λ j. readOf (take (j - 1) (front (written m) buffer))) (sym (ap countOf h))
-        ∙ ap readOf (front-line (printOf m) (drop (length (written m)) buffer))
+        ap (λ j. readOf (take (j - 1) (front (lineWritten m) buffer))) (sym (ap countOf h))
+        ∙ ap readOf (front-line (printOf m) (drop (length (lineWritten m)) buffer))
         ∙ written-read m (length buffer) typed r
     go (suc k) r h = absurd (subst WasRefused h tt)

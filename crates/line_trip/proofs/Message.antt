@@ -41,7 +41,7 @@ use Rattle.line_values.specs.Values.{slash, isPart}
 use Rattle.line_groups.specs.Rules.{alike, allOrNone, formatRule, 'p', 'd', deflated, payloadGood, singlesGood, fragmentGood, streamGood}
 use Rattle.line_groups.specs.Answers.{lenOf}
 use Rattle.line_places.specs.Headers.{shortValue, headersFit, headerOf, headersOf}
-use Rattle.line.specs.Reading.{ihave, verbWord, idWord, restOf, plain, isText, framed, fieldsOf, lineOf, valuesGood, wellFormed, chkRight, refusalOf, readOf, answered, Read}
+use Rattle.line.specs.Reading.{ihave, verbWord, idWord, restOf, plain, isText, framed, fieldsOf, lineOf, valuesGood, wellFormed, chkRight, refusalOf, readOf, readAs, Read}
 use Rattle.line.specs.Writing.{chosen, partText, choicesOf, headerToken, headerTokens, dstToken, tokensOf, bodyOf, chkToken, printOf, messageGood}
 use Rattle.line.specs.declared.Line.{Line}
 use Rattle.line_trip.proofs.Texts.{every-append, every-by, ascii, utf8-append, ascii-ruled, decimal-ascii, hex-ascii, signed-ascii, callsign-ascii, destination-ascii}
@@ -116,7 +116,7 @@ module _ (s : List ℕ) (ts : List Token) (e : tokens (restOf s) ≡ ts) where
 
   was-read : (m : Line) → refusalOf s ≡ 0 → lineOf s ≡ m → readOf s ≡ record { reading = Read; line = m }
   unfolding readOf
-  was-read m p q = ap (λ (n : ℕ). answered n (lineOf s)) p ∙ ap (answered 0) q
+  was-read m p q = ap (λ (n : ℕ). readAs n (lineOf s)) p ∙ ap (readAs 0) q
 
 -- ---- the tokens of a message
 

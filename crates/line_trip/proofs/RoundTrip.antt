@@ -10,7 +10,7 @@ use Rattle.octets.specs.Words.{if_then_else_, no, _<?_}
 use Rattle.refusals.specs.Numbers.{lineMalformed, payloadTooLong, longestPayload, bufferTooShort}
 use Rattle.envelope.specs.Tidy.{tidy}
 use Rattle.line.specs.Reading.{Outcome, Read, readOf}
-use Rattle.line.specs.Writing.{printOf, written, messageGood, writeRefusal}
+use Rattle.line.specs.Writing.{printOf, lineWritten, messageGood, writeRefusal}
 use Rattle.line.specs.declared.Line.{Line}
 use Rattle.line_trip.proofs.Message.{Typed, line-read}
 
@@ -28,7 +28,7 @@ unfolding writeRefusal
 written-read m room typed e = go (messageGood m) (longestPayload <? m .len) refl refl e
   where
     go : (g l : Bool) → messageGood m ≡ g → (longestPayload <? m .len) ≡ l
-        → (if no g then lineMalformed else if l then payloadTooLong else if room <? length (written m) then bufferTooShort else 0) ≡ 0
+        → (if no g then lineMalformed else if l then payloadTooLong else if room <? length (lineWritten m) then bufferTooShort else 0) ≡ 0
         → readOf (printOf m) ≡ readBack m
     go false l p q h = absurd (omega arith)
     go true true p q h = absurd (omega arith)

@@ -8,8 +8,8 @@ abbrev pub mayStand : Bool → ℕ → ℕ → Bool
 mayStand chk key word = no chk and no (key =? word)
 
 -- at most 8 headers, values of at most 128 bytes
-abbrev pub headerFits : ℕ → ℕ → Bool
-headerFits count value = count <? 8 and value ≤? 128
+abbrev pub headerRoom : ℕ → ℕ → Bool
+headerRoom count value = count <? 8 and value ≤? 128
 
 -- both, or neither
 abbrev pub alike : Bool → Bool → Bool

@@ -1,7 +1,7 @@
 // Document 01, "The ihave line": what a word must be to stand behind the words before it, a header behind the headers before it, and which
 // keys come together.
 ghost use mathlib.Core.Path.{_≡_};
-ghost use Rattle.line_words.specs.Standing.{mayStand, headerFits, alike, allOrNone, formatRule};
+ghost use Rattle.line_words.specs.Standing.{mayStand, headerRoom, alike, allOrNone, formatRule};
 
 // A word of `word` bytes, `key` of them before its first `=`: it has its `=`, and `chk` was not among the words before it.
 pub fn may_stand(chk: bool, key: usize, word: usize) -> bool
@@ -18,7 +18,7 @@ pub fn may_stand(chk: bool, key: usize, word: usize) -> bool
 
 // A header with a value of `value` bytes, behind `count` others.
 pub fn header_fits(count: usize, value: usize) -> bool
-    ensures { λ r. ⌜ r ≡ headerFits count value ⌝ }
+    ensures { λ r. ⌜ r ≡ headerRoom count value ⌝ }
 {
     if 8 <= count {
         return false;

@@ -17,7 +17,7 @@ use Rattle.envelope.specs.Rules.{envelope}
 use Rattle.tokens.specs.Tokens.{wordOf, spaced}
 use Rattle.line_refusals.specs.Order.{refusesWriting, lineGood}
 use Rattle.line_refusals.proofs.Clear.{cleared}
-use Rattle.line.specs.Writing.{bodyOf, chkToken, printOf, written, messageGood, writeRefusal}
+use Rattle.line.specs.Writing.{bodyOf, chkToken, printOf, lineWritten, messageGood, writeRefusal}
 use Rattle.line.specs.declared.Line.{Line}
 use Rattle.line_draft.specs.Draft.{fullDraft, draft, added, Adds}
 use Rattle.line_draft.proofs.Drafts.{added-full, add-append, stays-full, adds-then}
@@ -99,18 +99,18 @@ module _ (m : Line) (l : List ℕ) (v : Bool) (is-v : v ≡ envelope (m .fields)
   number-is = sym (is-k ∙ ap (λ (t : Bool). refusesWriting (lineGood t (m .len) n) (m .len) (n + 1) (length l)) is-v ∙ go (n ≤? 512) refl)
     where
       go : (t : Bool) → (n ≤? 512) ≡ t
-          → refusesWriting (lineGood valid (m .len) n) (m .len) (n + 1) (length l) ≡ refusesWriting (lineGood valid (m .len) (length (printOf m))) (m .len) (length (written m)) (length l)
+          → refusesWriting (lineGood valid (m .len) n) (m .len) (n + 1) (length l) ≡ refusesWriting (lineGood valid (m .len) (length (printOf m))) (m .len) (length (lineWritten m)) (length l)
       go true e =
           let h = holds (leb-true n 512 e) in
           let i = h .len-is in
-          let j : n + 1 ≡ length (written m) = omega (arith, length-append (printOf m) (0x0A ∷ [])) in
+          let j : n + 1 ≡ length (lineWritten m) = omega (arith, length-append (printOf m) (0x0A ∷ [])) in
           ap (λ (s : ℕ). refusesWriting (lineGood valid (m .len) n) (m .len) s (length l)) j
-          ∙ ap (λ (s : ℕ). refusesWriting (lineGood valid (m .len) s) (m .len) (length (written m)) (length l)) i
+          ∙ ap (λ (s : ℕ). refusesWriting (lineGood valid (m .len) s) (m .len) (length (lineWritten m)) (length l)) i
       go false e =
           let p = and-not-right valid _ (and-not-right (m .len ≤? 2147483647) _ e) in
           let q = and-not-right valid _ (and-not-right (m .len ≤? 2147483647) _ (lt-leb (length (printOf m)) 512 (too-long (leb-false n 512 e)))) in
           ap (λ (t : Bool). refusesWriting t (m .len) (n + 1) (length l)) p
-          ∙ sym (ap (λ (t : Bool). refusesWriting t (m .len) (length (written m)) (length l)) q)
+          ∙ sym (ap (λ (t : Bool). refusesWriting t (m .len) (length (lineWritten m)) (length l)) q)
 
   pub refused : (k ≡ 0 → ⊥) → Left (Refused k) l
   unfolding writeAnswer writeLeft
@@ -120,7 +120,7 @@ module _ (m : Line) (l : List ℕ) (v : Bool) (is-v : v ≡ envelope (m .fields)
       go zero e = absurd (d e)
       go (suc i) e =
           let f = number-is ∙ e in
-          (ap Refused e ∙ sym (ap (λ (j : ℕ). answerBy j (length (written m))) f), sym (ap (λ (j : ℕ). leftBy j (written m) l) f))
+          (ap Refused e ∙ sym (ap (λ (j : ℕ). answerBy j (length (lineWritten m))) f), sym (ap (λ (j : ℕ). leftBy j (lineWritten m) l) f))
 
   module _ (z : k ≡ 0) where
     clear : (n ≤ 512) × (n < length l)
@@ -141,15 +141,15 @@ module _ (m : Line) (l : List ℕ) (v : Bool) (is-v : v ≡ envelope (m .fields)
         let r = clear .1 in
         let none = number-is ∙ z in
         let a = length-append t (0x0A ∷ []) in
-        let s : n + 1 ≡ length (written m) = omega arith in
-        let y : length t + 1 ≡ length (written m) = omega arith in
+        let s : n + 1 ≡ length (lineWritten m) = omega arith in
+        let y : length t + 1 ≡ length (lineWritten m) = omega arith in
         let u : 0 + length t ≡ length t = omega arith in
         let q : length t < length l = omega arith in
         let e : out ≡ t ++ drop (length t) l = eo ∙ ap (λ (f : List ℕ). placed f 0 l) (ew ∙ h .text-is) ∙ placed-in t 0 l (omega arith) ∙ ap (λ (i : ℕ). t ++ drop i l) u in (
-          ap Written s ∙ sym (ap (λ (i : ℕ). answerBy i (length (written m))) none),
+          ap Written s ∙ sym (ap (λ (i : ℕ). answerBy i (length (lineWritten m))) none),
           ap (λ (f : List ℕ). set f n 0x0A) (e ∙ ap (λ (f : List ℕ). t ++ f) (drop-next l (length t) 0 q))
               ∙ set-at t (getD l (length t) 0) (drop (length t + 1) l) 0x0A n (sym ek)
               ∙ sym (append-assoc t (0x0A ∷ []) (drop (length t + 1) l))
               ∙ ap (λ (i : ℕ). (t ++ (0x0A ∷ [])) ++ drop i l) y
-              ∙ sym (ap (λ (i : ℕ). leftBy i (written m) l) none),
+              ∙ sym (ap (λ (i : ℕ). leftBy i (lineWritten m) l) none),
         )

@@ -3,7 +3,7 @@ use Prim.Native.Nat.{ℕ, zero, suc}
 use mathlib.Core.List.{List}
 use lib.ListN.{length}
 use Rattle.octets.specs.Bytes.{front}
-use Rattle.line.specs.Writing.{written, writeRefusal}
+use Rattle.line.specs.Writing.{lineWritten, writeRefusal}
 use Rattle.line.specs.declared.Line.{Line}
 use Rattle.line_writer.specs.declared.LineWriting.{LineWriting}
 
@@ -27,7 +27,7 @@ leftBy zero w buffer = front w buffer
 leftBy (suc k) w buffer = buffer
 
 unfoldable pub writeAnswer : Line → List ℕ → Writing
-writeAnswer m buffer = answerBy (writeRefusal m (length buffer)) (length (written m))
+writeAnswer m buffer = answerBy (writeRefusal m (length buffer)) (length (lineWritten m))
 
 unfoldable pub writeLeft : Line → List ℕ → List ℕ
-writeLeft m buffer = leftBy (writeRefusal m (length buffer)) (written m) buffer
+writeLeft m buffer = leftBy (writeRefusal m (length buffer)) (lineWritten m) buffer

@@ -62,13 +62,13 @@ module _ {S E : Type 0} (feed : S → ℕ → Fed S E) (none : E) where
         go (quiet t) p ih = ih t p
         go (stop t w e) p ih = p
 
-  module _ (noted : E → List E) (mute : noted none ≡ []) where
+  module _ (reports : E → List E) (mute : reports none ≡ []) where
     abbrev W : S → List ℕ → Seen S E
-    W = seen feed noted
+    W = seen feed reports
 
     -- what a call adds to what is seen from where it stopped
     abbrev sees : Out S E → Seen S E → Seen S E
-    sees o t = before (o .reply) (noted (o .happened)) t
+    sees o t = before (o .reply) (reports (o .happened)) t
 
     quiet-noted : (s : S) (k : ℕ) (t : Seen S E) → sees (R k s []) t ≡ t
     quiet-noted s k t = rw mute
@@ -82,7 +82,7 @@ module _ {S E : Type 0} (feed : S → ℕ → Fed S E) (none : E) where
       where
         go : (f : Fed S E) → after f k (λ t. R (k + 1) t bs) .used ≡ k + suc m
             → ((t : S) → R (k + 1) t bs .used ≡ k + 1 + m → W t (take m bs ++ cs) ≡ sees (R (k + 1) t bs) (W (R (k + 1) t bs .state) cs))
-            → seenAfter noted f (λ t. W t (take m bs ++ cs)) ≡ sees (after f k (λ t. R (k + 1) t bs)) (W (after f k (λ t. R (k + 1) t bs) .state) cs)
+            → seenAfter reports f (λ t. W t (take m bs ++ cs)) ≡ sees (after f k (λ t. R (k + 1) t bs)) (W (after f k (λ t. R (k + 1) t bs) .state) cs)
         go (quiet t) e ih = ih t (omega arith)
         go (stop t w v) e ih = let z : m ≡ 0 = omega arith in rw z
 
@@ -94,7 +94,7 @@ module _ {S E : Type 0} (feed : S → ℕ → Fed S E) (none : E) where
       B = bytesUsed step piece
 
       abbrev H : S → List C → Seen S E
-      H = seenBy step piece noted
+      H = seenBy step piece reports
 
       -- THE THEOREM over any list of calls: what is seen is what the bytes used lead to
       pub calls-bytes : (s : S) (cs : List C) → ok s → H s cs ≡ W s (B s cs)
@@ -103,12 +103,12 @@ module _ {S E : Type 0} (feed : S → ℕ → Fed S E) (none : E) where
         where
           go : (x : Out S E) → (x ≡ R 0 s (piece c)) ⊎ (x ≡ record { used = 0; state = s; reply = []; happened = none })
               → H (x .state) cs ≡ W (x .state) (B (x .state) cs)
-              → before (x .reply) (noted (x .happened)) (H (x .state) cs) ≡ W s (take (x .used) (piece c) ++ B (x .state) cs)
+              → before (x .reply) (reports (x .happened)) (H (x .state) cs) ≡ W s (take (x .used) (piece c) ++ B (x .state) cs)
           go x (inl e) ih =
               let r = R 0 s (piece c) in
-              ap (before (x .reply) (noted (x .happened))) ih
+              ap (before (x .reply) (reports (x .happened))) ih
               ∙ rw e (sym (call-prefix 0 s (piece c) (B (r .state) cs) (r .used) (omega arith)))
-          go x (inr e) ih = ap (before (x .reply) (noted (x .happened))) ih ∙ rw (e, mute)
+          go x (inr e) ih = ap (before (x .reply) (reports (x .happened))) ih ∙ rw (e, mute)
 
       -- what was used and what is left are the stream
       split : (s : S) (stream : List ℕ) (cs : List C) → ok s → Offers step piece s stream cs → B s cs ++ unused step piece s stream cs ≡ stream
@@ -140,13 +140,13 @@ module _ {S E : Type 0} (feed : S → ℕ → Fed S E) (none : E) where
         nothing-more s [] rest d = closed-seen s rest d
         nothing-more s (b ∷ bs) rest d = go (feed s b) d (λ t. nothing-more t bs rest)
           where
-            go : (f : Fed S E) → closed (seenAfter noted f (λ t. W t bs) .state) ≡ true → ((t : S) → closed (W t bs .state) ≡ true → W t (bs ++ rest) ≡ W t bs)
-                → seenAfter noted f (λ t. W t (bs ++ rest)) ≡ seenAfter noted f (λ t. W t bs)
+            go : (f : Fed S E) → closed (seenAfter reports f (λ t. W t bs) .state) ≡ true → ((t : S) → closed (W t bs .state) ≡ true → W t (bs ++ rest) ≡ W t bs)
+                → seenAfter reports f (λ t. W t (bs ++ rest)) ≡ seenAfter reports f (λ t. W t bs)
             go (quiet t) e ih = ih t e
-            go (stop t w v) e ih = ap (before w (noted v)) (ih t e)
+            go (stop t w v) e ih = ap (before w (reports v)) (ih t e)
 
         -- a host that goes through a stream sees what the whole stream leads to
-        pub stream-seen : (s : S) (stream : List ℕ) (cs : List C) → ok s → Through step piece closed noted s stream cs → H s cs ≡ W s stream
+        pub stream-seen : (s : S) (stream : List ℕ) (cs : List C) → ok s → Through step piece closed reports s stream cs → H s cs ≡ W s stream
         stream-seen s stream cs o t = calls-bytes s cs o ∙ go (t .1) ∙ ap (W s) (split s stream cs o (t .0))
           where
             go : (unused step piece s stream cs ≡ []) ⊎ (closed (H s cs .state) ≡ true) → W s (B s cs) ≡ W s (B s cs ++ unused step piece s stream cs)
@@ -154,14 +154,14 @@ module _ {S E : Type 0} (feed : S → ℕ → Fed S E) (none : E) where
             go (inr e) = sym (nothing-more s (B s cs) (unused step piece s stream cs) (ap (λ (x : Seen S E). closed (x .state)) (sym (calls-bytes s cs o)) ∙ e))
 
         -- however the stream is cut, and whatever is lent, the host sees the same
-        pub cut-freely : (s : S) (stream : List ℕ) (cs ds : List C) → ok s → Through step piece closed noted s stream cs → Through step piece closed noted s stream ds → H s cs ≡ H s ds
+        pub cut-freely : (s : S) (stream : List ℕ) (cs ds : List C) → ok s → Through step piece closed reports s stream cs → Through step piece closed reports s stream ds → H s cs ≡ H s ds
         cut-freely s stream cs ds o p q = stream-seen s stream cs o p ∙ sym (stream-seen s stream ds o q)
 
         -- and there is such a host for every stream: one that offers all that is left, and at its n-th call from the last lends what it likes,
         -- as long as no call is refused before the machine is closed
         module _ (lend : ℕ → List ℕ → C) (offered : (n : ℕ) (l : List ℕ) → piece (lend n l) ≡ l)
             (taken : (n : ℕ) (s : S) (l : List ℕ) → ok s → closed s ≡ false → step s (lend n l) ≡ R 0 s l) where
-          pub goes-through : (n : ℕ) (s : S) (stream : List ℕ) → ok s → length stream ≤ n → (cs : List C) × Through step piece closed noted s stream cs
+          pub goes-through : (n : ℕ) (s : S) (stream : List ℕ) → ok s → length stream ≤ n → (cs : List C) × Through step piece closed reports s stream cs
           goes-through zero s stream o h = ([], (tt, inl (none-left stream h)))
             where
               none-left : (l : List ℕ) → length l ≤ 0 → l ≡ []
@@ -170,8 +170,8 @@ module _ {S E : Type 0} (feed : S → ℕ → Fed S E) (none : E) where
           goes-through (suc n) s stream o h = go stream h (closed s) refl (λ t l. goes-through n t l)
             where
               go : (stream : List ℕ) → length stream ≤ suc n → (x : Bool) → closed s ≡ x
-                  → ((t : S) (l : List ℕ) → ok t → length l ≤ n → (cs : List C) × Through step piece closed noted t l cs)
-                  → (cs : List C) × Through step piece closed noted s stream cs
+                  → ((t : S) (l : List ℕ) → ok t → length l ≤ n → (cs : List C) × Through step piece closed reports t l cs)
+                  → (cs : List C) × Through step piece closed reports s stream cs
               go [] h x e ih = ([], (tt, inl refl))
               go (b ∷ bs) h true e ih = ([], (tt, inr e))
               go (b ∷ bs) h false e ih =

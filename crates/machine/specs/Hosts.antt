@@ -15,8 +15,8 @@ module _ {S E C : Type 0} (step : S → C → Out S E) (piece : C → List ℕ) 
 
   -- what the peer and the host see of the calls; `noted e` is what the host notes of e
   abbrev pub seenBy : (E → List E) → S → List C → Seen S E
-  seenBy noted s [] = record { state = s; reply = []; happened = [] }
-  seenBy noted s (c ∷ cs) = before (step s c .reply) (noted (step s c .happened)) (seenBy noted (step s c .state) cs)
+  seenBy reports s [] = record { state = s; reply = []; happened = [] }
+  seenBy reports s (c ∷ cs) = before (step s c .reply) (reports (step s c .happened)) (seenBy reports (step s c .state) cs)
 
   -- ---- a host that has a stream: each piece that it offers is the beginning of what is not used yet, so unused bytes are offered again
   abbrev pub Offers : S → List ℕ → List C → Type 0
@@ -30,4 +30,4 @@ module _ {S E C : Type 0} (step : S → C → Out S E) (piece : C → List ℕ) 
 
   -- it goes on until no byte is left, or the machine is closed
   abbrev pub Through : (S → Bool) → (E → List E) → S → List ℕ → List C → Type 0
-  Through closed noted s stream cs = Offers s stream cs × ((unused s stream cs ≡ []) ⊎ (closed (seenBy noted s cs .state) ≡ true))
+  Through closed reports s stream cs = Offers s stream cs × ((unused s stream cs ≡ []) ⊎ (closed (seenBy reports s cs .state) ≡ true))

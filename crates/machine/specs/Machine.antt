@@ -30,8 +30,8 @@ module _ {S E : Type 0} where
   before w es t = record { state = t .state; reply = w ++ t .reply; happened = es ++ t .happened }
 
   abbrev pub seenAfter : (E → List E) → Fed S E → (S → Seen S E) → Seen S E
-  seenAfter noted (quiet s) f = f s
-  seenAfter noted (stop s w e) f = before w (noted e) (f s)
+  seenAfter reports (quiet s) f = f s
+  seenAfter reports (stop s w e) f = before w (reports e) (f s)
 
   -- a call on a piece, at k bytes used before; `none` is what happens where no byte stops the call
   abbrev pub run : (S → ℕ → Fed S E) → E → ℕ → S → List ℕ → Out S E
@@ -40,5 +40,5 @@ module _ {S E : Type 0} where
 
   -- the whole stream, byte by byte; `noted e` is what the host notes of e
   abbrev pub seen : (S → ℕ → Fed S E) → (E → List E) → S → List ℕ → Seen S E
-  seen feed noted s [] = record { state = s; reply = []; happened = [] }
-  seen feed noted s (b ∷ bs) = seenAfter noted (feed s b) (λ t. seen feed noted t bs)
+  seen feed reports s [] = record { state = s; reply = []; happened = [] }
+  seen feed reports s (b ∷ bs) = seenAfter reports (feed s b) (λ t. seen feed reports t bs)

@@ -12,7 +12,7 @@ use Rattle.octets.specs.Words.{if_then_else_, _or_, _<?_, _≤?_, every, some}
 use Rattle.octets.specs.Bytes.{same}
 use Rattle.octets.proofs.Lists.{drop-next, every-at, same-eq}
 use Rattle.octets.proofs.Tests.{if-yes, if-no}
-use Rattle.names.specs.Reserved.{reservedKeys, reserved, placeIn, placeOf, spelling}
+use Rattle.names.specs.Reserved.{reservedKeys, reserved, placeIn, keyPlace, spelling}
 use Rattle.names.specs.declared.Word.{Word}
 
 unfoldable pub table : List Word
@@ -92,12 +92,12 @@ place-at (x ∷ xs) k h = go (same k x) refl h (place-at xs k)
     go false e l more = more (omega arith)
 
 -- a key is reserved where its place lies in the table, and it then stands there
-pub reserved-place : (k : List ℕ) → reserved k ≡ (placeOf k <? 13)
-unfolding reserved placeOf
+pub reserved-place : (k : List ℕ) → reserved k ≡ (keyPlace k <? 13)
+unfolding reserved keyPlace
 reserved-place k = place-some reservedKeys k ∙ ap (λ (n : ℕ). placeIn reservedKeys k <? n) (counts .1)
 
-pub key-at : (k : List ℕ) → placeOf k < 13 → getD reservedKeys (placeOf k) [] ≡ k
-unfolding placeOf
+pub key-at : (k : List ℕ) → keyPlace k < 13 → getD reservedKeys (keyPlace k) [] ≡ k
+unfolding keyPlace
 key-at k h = place-at reservedKeys k (omega (arith, counts .1))
 
 -- the keys all differ, so that the place of the key at a place is that place
@@ -111,18 +111,18 @@ counted-at a zero i h = absurd (omega arith)
 counted-at a (suc n) zero h = omega arith
 counted-at a (suc n) (suc i) h = let k = counted-at (suc a) n i (omega arith) in omega arith
 
-places-counted : map placeOf reservedKeys ≡ counted 0 13
-unfolding counted reservedKeys placeOf placeIn same
+places-counted : map keyPlace reservedKeys ≡ counted 0 13
+unfolding counted reservedKeys keyPlace placeIn same
 places-counted = refl
 
-none-there : placeOf [] ≡ 13
-unfolding reservedKeys placeOf placeIn same
+none-there : keyPlace [] ≡ 13
+unfolding reservedKeys keyPlace placeIn same
 none-there = refl
 
-pub place-back : (i : ℕ) → i < 13 → placeOf (getD reservedKeys i []) ≡ i
+pub place-back : (i : ℕ) → i < 13 → keyPlace (getD reservedKeys i []) ≡ i
 place-back i h =
-    sym (List·getD-map placeOf reservedKeys i [])
-    ∙ ap (λ (d : ℕ). getD (map placeOf reservedKeys) i d) none-there
+    sym (List·getD-map keyPlace reservedKeys i [])
+    ∙ ap (λ (d : ℕ). getD (map keyPlace reservedKeys) i d) none-there
     ∙ ap (λ (l : List ℕ). getD l i 13) places-counted
     ∙ counted-at 0 13 i h
     ∙ let z : 0 + i ≡ i = omega arith in z

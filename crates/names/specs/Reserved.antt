@@ -59,8 +59,8 @@ unfoldable pub placeIn : List (List ℕ) → List ℕ → ℕ
 placeIn [] k = 0
 placeIn (x ∷ xs) k = if same k x then 0 else suc (placeIn xs k)
 
-unfoldable pub placeOf : List ℕ → ℕ
-placeOf k = placeIn reservedKeys k
+unfoldable pub keyPlace : List ℕ → ℕ
+keyPlace k = placeIn reservedKeys k
 
 -- what a padded spelling says: its first len bytes
 unfoldable pub spelling : Word → List ℕ

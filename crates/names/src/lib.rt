@@ -1,6 +1,6 @@
 // Document 01, "Names and fields": stream id, header key and value, the thirteen reserved keys.
 ghost use mathlib.Core.Path.{_≡_};
-ghost use Rattle.names.specs.Reserved.{reserved, placeOf};
+ghost use Rattle.names.specs.Reserved.{reserved, keyPlace};
 ghost use Rattle.names.specs.Texts.{streamId, headerKey, headerValue};
 
 mod texts;
@@ -104,7 +104,7 @@ pub fn is_stream_id(s: &[u8]) -> bool
 
 // A key's place in the table of the reserved keys: 13 where it is none of them.
 pub fn reserved_place(s: &[u8]) -> usize
-    ensures { λ r. ⌜ r ≡ placeOf (now (s .entry)) ⌝ }
+    ensures { λ r. ⌜ r ≡ keyPlace (now (s .entry)) ⌝ }
 {
     let table = RESERVED;
     let mut i = 0;

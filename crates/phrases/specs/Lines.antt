@@ -6,12 +6,9 @@ use lib.ListN.{length, take}
 use Rattle.octets.specs.Words.{if_then_else_, _or_, some, between}
 use Rattle.octets.specs.Bytes.{same}
 use Rattle.text.specs.Hex.{hexDigits}
+pub use Rattle.tokens.specs.Tokens.{ihave}
 use Rattle.phrases.specs.declared.Kind.{Kind}
 use Rattle.phrases.specs.declared.Kind.the-variants.{Ihave, Data, Leave, Ask, Other}
-
--- `ihave`: i, h, a, v, e
-abbrev pub ihave : List ℕ
-ihave = 105 ∷ 104 ∷ 97 ∷ 118 ∷ 101 ∷ []
 
 -- `data`: d, a, t, a
 abbrev pub data-word : List ℕ

@@ -16,7 +16,7 @@ use Rattle.octets.proofs.Lists.{drop-next}
 use Rattle.lengths.proofs.Zeros.{or-zero}
 use Rattle.places.specs.declared.Held.{Held}
 use Rattle.places.specs.Messages.{insert}
-use Rattle.places.specs.Places.{blank, isBlank, places, placeOf}
+use Rattle.places.specs.Places.{blank, isBlank, places, placeFor}
 
 -- ---- a turn of a loop
 
@@ -166,29 +166,29 @@ module _ (n : ℕ) (l : List Held) (z : 0 < n) (w : Placed n l) where
   rest-counted = counted (n - 1) (drop 1 l ++ (blank ∷ [])) rest-places ∙ ap length rest-taken
 
 -- with one more
-pub place-le : (n : ℕ) (l : List Held) → placeOf n l ≤ length l
+pub place-le : (n : ℕ) (l : List Held) → placeFor n l ≤ length l
 place-le n [] = omega arith
 place-le n (m ∷ l) = go (n <? m .number) (place-le n l)
   where
-    go : (b : Bool) → placeOf n l ≤ length l → (if b then 0 else (1 + placeOf n l)) ≤ suc (length l)
+    go : (b : Bool) → placeFor n l ≤ length l → (if b then 0 else (1 + placeFor n l)) ≤ suc (length l)
     go true ih = omega arith
     go false ih = omega arith
 
-insert-is : (x : Held) (l : List Held) → insert x l ≡ take (placeOf (x .number) l) l ++ (x ∷ drop (placeOf (x .number) l) l)
+insert-is : (x : Held) (l : List Held) → insert x l ≡ take (placeFor (x .number) l) l ++ (x ∷ drop (placeFor (x .number) l) l)
 insert-is x [] = refl
 insert-is x (m ∷ l) = go (x .number <? m .number) (insert-is x l)
   where
     at : ℕ → List Held
     at p = take p (m ∷ l) ++ (x ∷ drop p (m ∷ l))
 
-    go : (b : Bool) → insert x l ≡ take (placeOf (x .number) l) l ++ (x ∷ drop (placeOf (x .number) l) l)
-        → (if b then x ∷ m ∷ l else (m ∷ insert x l)) ≡ at (if b then 0 else (1 + placeOf (x .number) l))
+    go : (b : Bool) → insert x l ≡ take (placeFor (x .number) l) l ++ (x ∷ drop (placeFor (x .number) l) l)
+        → (if b then x ∷ m ∷ l else (m ∷ insert x l)) ≡ at (if b then 0 else (1 + placeFor (x .number) l))
     go true ih = refl
-    go false ih = ap (λ (r : List Held). m ∷ r) ih ∙ ap at (let e : suc (placeOf (x .number) l) ≡ 1 + placeOf (x .number) l = omega arith in e)
+    go false ih = ap (λ (r : List Held). m ∷ r) ih ∙ ap at (let e : suc (placeFor (x .number) l) ≡ 1 + placeFor (x .number) l = omega arith in e)
 
 pub length-insert : (x : Held) (l : List Held) → length (insert x l) ≡ length l + 1
 length-insert x l =
-    let p = placeOf (x .number) l in
+    let p = placeFor (x .number) l in
     let h : p ≤ length l = place-le (x .number) l in
     ap length (insert-is x l) ∙ length-append (take p l) (x ∷ drop p l) ∙ simp (length-take-le p l, length-drop) (omega arith)
 
@@ -197,9 +197,9 @@ length-places l h = length-append l (replicate (16 - length l) blank) ∙ ap (λ
 
 -- the places after a store in the middle
 pub more-placed : (x : Held) (l : List Held) → length l < 16
-    → take 16 (take (placeOf (x .number) l) (places l) ++ (x ∷ drop (placeOf (x .number) l) (places l))) ≡ places (insert x l)
+    → take 16 (take (placeFor (x .number) l) (places l) ++ (x ∷ drop (placeFor (x .number) l) (places l))) ≡ places (insert x l)
 more-placed x l h =
-    let p = placeOf (x .number) l in
+    let p = placeFor (x .number) l in
     let z = replicate (16 - length l) blank in
     let q : p ≤ length l = place-le (x .number) l in
     let k : 16 - length l ≡ (16 - length (insert x l)) + 1 = rw (length-insert x l) (omega arith) in

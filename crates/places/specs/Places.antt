@@ -18,6 +18,6 @@ abbrev pub places : List Held → List Held
 places l = l ++ replicate (16 - length l) blank
 
 -- how many messages stand before the first whose number is above `number`: where `insert` puts it
-abbrev pub placeOf : ℕ → List Held → ℕ
-placeOf number [] = 0
-placeOf number (m ∷ rest) = if number <? m .number then 0 else (1 + placeOf number rest)
+abbrev pub placeFor : ℕ → List Held → ℕ
+placeFor number [] = 0
+placeFor number (m ∷ rest) = if number <? m .number then 0 else (1 + placeFor number rest)

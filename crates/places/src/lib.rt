@@ -5,7 +5,7 @@ ghost use Prim.Native.Nat.{max};
 ghost use lib.ListN.{take, drop};
 ghost use Rattle.octets.specs.Words.{every};
 ghost use Rattle.places.specs.Messages.{ascending, holds, gapOpen};
-ghost use Rattle.places.specs.Places.{blank, isBlank, placeOf};
+ghost use Rattle.places.specs.Places.{blank, isBlank, placeFor};
 ghost use Rattle.places.specs.Steps.{aboveBy, startAfter};
 
 // A message that waits: its number, how long a gap before it may stand open (0: for ever), and the slip under which the host keeps it.
@@ -66,7 +66,7 @@ pub fn has(held: [Held; 16], n: usize, number: u32) -> bool
 
 // The place of the first of the n messages whose number is above `number`, or their count.
 pub fn place(held: [Held; 16], n: usize, number: u32) -> usize
-    ensures { λ r. ⌜ r ≡ placeOf number (take n held) ⌝ }
+    ensures { λ r. ⌜ r ≡ placeFor number (take n held) ⌝ }
 {
     let count = lengths::at_most(n, 16);
     let mut i: usize = 0;

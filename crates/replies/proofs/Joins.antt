@@ -13,7 +13,7 @@ use Rattle.octets.proofs.Lists.{placed-none, placed-append, placed-out}
 use Rattle.text.specs.Hex.{hexDigits}
 use Rattle.text.proofs.Numerals.{length-digits}
 use Rattle.replies.specs.declared.Reply.{Reply}
-use Rattle.replies.specs.Replies.{LF, 'error', tokenOf, tokenGood, errs, replyText, wrote}
+use Rattle.replies.specs.Replies.{LF, 'error', errorToken, tokenGood, errs, replyText, wrote}
 
 -- three parts, all of which fit
 pub three : (a b c : List ℕ) (l l₁ l₂ l₃ : List ℕ) → length a + length b + length c ≤ length l
@@ -81,6 +81,6 @@ silent l = (go (fits {A = ℕ} [] 0 l), sym (placed-none 0 l (omega arith)))
     go true = refl
     go false = refl
 
-pub token-said : (s t : List ℕ) (n : ℕ) (l l′ : List ℕ) → t ≡ tokenOf s → (n ≡ wrote (errs t) l) × (l′ ≡ placed (errs t) 0 l)
-    → (n ≡ wrote (errs (tokenOf s)) l) × (l′ ≡ placed (errs (tokenOf s)) 0 l)
+pub token-said : (s t : List ℕ) (n : ℕ) (l l′ : List ℕ) → t ≡ errorToken s → (n ≡ wrote (errs t) l) × (l′ ≡ placed (errs t) 0 l)
+    → (n ≡ wrote (errs (errorToken s)) l) × (l′ ≡ placed (errs (errorToken s)) 0 l)
 token-said s t n l l′ e k = subst (λ (x : List ℕ). (n ≡ wrote (errs x) l) × (l′ ≡ placed (errs x) 0 l)) e k

@@ -10,17 +10,17 @@ use Rattle.octets.specs.Words.{every, between}
 use Rattle.octets.proofs.Tests.{and-next, and-not-left, inside, below, above}
 use Rattle.octets.proofs.Lists.{every-next, every-not}
 use Rattle.tokens.specs.Cuts.{before}
-use Rattle.replies.specs.Replies.{tokenOf, tokenGood}
+use Rattle.replies.specs.Replies.{errorToken, tokenGood}
 
 -- a part up to the end
 to-end : (n : ℕ) (s : List ℕ) → take (length s - n) (drop n s) ≡ drop n s
 to-end n s = take-all (length s - n) (drop n s) (rw length-drop (omega arith))
 
-pub token-none : (s : List ℕ) → length s < 6 → tokenOf s ≡ []
+pub token-none : (s : List ℕ) → length s < 6 → errorToken s ≡ []
 unfolding before
 token-none s h = rw (drop-of-length-le s {i = 6} (omega arith))
 
-pub token-part : (s t : List ℕ) → t ≡ before 0x20 (take (length s - 6) (drop 6 s)) → t ≡ tokenOf s
+pub token-part : (s t : List ℕ) → t ≡ before 0x20 (take (length s - 6) (drop 6 s)) → t ≡ errorToken s
 token-part s t e = e ∙ ap (before 0x20) (to-end 6 s)
 
 pub good-none : (t : List ℕ) → length t < 1 → tokenGood t ≡ false

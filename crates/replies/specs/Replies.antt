@@ -22,8 +22,8 @@ abbrev pub sends : ℕ → List ℕ
 sends id = (115 ∷ 101 ∷ 110 ∷ 100 ∷ 32 ∷ []) ++ (hexDigits 7 id ++ LF)
 
 -- the token after `ihave `, and whether it is said again: 1 to 7 bytes, all 0x21 to 0x7E
-abbrev pub tokenOf : List ℕ → List ℕ
-tokenOf s = before 0x20 (drop 6 s)
+abbrev pub errorToken : List ℕ → List ℕ
+errorToken s = before 0x20 (drop 6 s)
 
 unfoldable pub tokenGood : List ℕ → Bool
 tokenGood t = between 1 7 (length t) and every (between 0x21 0x7E) t
@@ -60,7 +60,7 @@ replyText Silence s = []
 replyText Prompt s = prompt
 replyText (Send id) s = sends id
 replyText Error s = 'error' ++ LF
-replyText ErrorToken s = errs (tokenOf s)
+replyText ErrorToken s = errs (errorToken s)
 replyText (Ack id) s = acks id
 replyText (Bad id) s = bads id
 replyText Bye s = bye

@@ -3,7 +3,7 @@ ghost use mathlib.Core.Path.{_≡_};
 ghost use mathlib.Core.List.{_++_};
 ghost use Rattle.octets.specs.Bytes.{placed};
 ghost use Rattle.text.specs.Hex.{hexDigits};
-ghost use Rattle.replies.specs.Replies.{tokenOf, tokenGood, errs, wrote};
+ghost use Rattle.replies.specs.Replies.{errorToken, tokenGood, errs, wrote};
 
 pub(crate) fn put(text: &[u8], out: &mut [u8]) -> usize
     ensures { λ r. ⌜ (r ≡ wrote (now (text .entry)) (now (out .entry))) × (now (out .exit) ≡ placed (now (text .entry)) 0 (now (out .entry))) ⌝ }
@@ -54,7 +54,7 @@ pub(crate) fn put_error(t: &[u8], out: &mut [u8]) -> usize
 
 // The token after `ihave `.
 pub(crate) fn token(s: &[u8]) -> &[u8]
-    ensures { λ r. ⌜ now r ≡ tokenOf (now (s .entry)) ⌝ }
+    ensures { λ r. ⌜ now r ≡ errorToken (now (s .entry)) ⌝ }
 {
     if s.len() < 6 {
         return &s[0..0];

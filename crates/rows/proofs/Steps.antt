@@ -13,7 +13,7 @@ use Rattle.rows.specs.declared.Row.{Row}
 use Rattle.rows.specs.Answer.{Answer, given, nothing, accepted, refused, Outcome, refuse}
 use Rattle.rows.specs.Stream.{Stream, ascending, above, gapOpen, insert, accept, stay, give, due, takeFrom, forceFrom}
 use Rattle.rows.specs.Row.{blank, heldIn, streamOf, places, keepsRow, packed}
-use Rattle.rows.specs.Steps.{placeOf, aboveBy, startAfter, dueFrom}
+use Rattle.rows.specs.Steps.{placeFor, aboveBy, startAfter, dueFrom}
 use Rattle.places.proofs.Packing.{Placed, counted, placed, lowest-of, rest-taken, rest-placed, rest-counted, more-placed, more-taken, length-insert}
 use Rattle.rows.proofs.Rules.{placed-in, row-is, packs, above-count}
 
@@ -37,7 +37,7 @@ module _ (r : Row) (k : keepsRow r ≡ true) where
 
   pub accept-is : (m : Held) (clock start p : ℕ) (more : List Held) (before after : Bool)
       → length (heldIn r) < 16
-      → p ≡ placeOf (m .number) (heldIn r)
+      → p ≡ placeFor (m .number) (heldIn r)
       → more ≡ take 16 (take p (r .held) ++ (m ∷ drop p (r .held)))
       → before ≡ gapOpen (r .expected) (heldIn r)
       → after ≡ gapOpen (r .expected) (take (r .count + 1) more)

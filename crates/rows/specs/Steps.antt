@@ -5,7 +5,7 @@ use mathlib.Core.List.{List, [], _∷_}
 use Rattle.places.specs.declared.Held.{Held}
 use Rattle.octets.specs.Words.{_and_, _<?_, _≤?_}
 use Rattle.rows.specs.Stream.{Stream, above, due}
-pub use Rattle.places.specs.Places.{placeOf}
+pub use Rattle.places.specs.Places.{placeFor}
 pub use Rattle.places.specs.Steps.{aboveBy, startAfter}
 
 -- something is held, and the lowest is due

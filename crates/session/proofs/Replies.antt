@@ -19,7 +19,7 @@ use Rattle.line.specs.declared.Line.{Line}
 use Rattle.line.specs.Reading.{Reading, readOf}
 use Rattle.phrases.specs.declared.Kind.{Kind}
 use Rattle.phrases.specs.Lines.{kindOf, isData}
-use Rattle.replies.specs.Replies.{LF, prompt, 'error', tokenOf, tokenGood, sends, errs, acks, bads, wrote}
+use Rattle.replies.specs.Replies.{LF, prompt, 'error', errorToken, tokenGood, sends, errs, acks, bads, wrote}
 use Rattle.talk.specs.declared.Terms.{Terms}
 use Rattle.talk.specs.declared.Session.{Session}
 use Rattle.talk.specs.declared.Stop.{Stop}
@@ -72,7 +72,7 @@ data-short t s = by-test (keepsTerms t and isData (t .id) s) _ _ (by-test (t .le
 
 offered-short : (s : List ℕ) (r : Reading) (m : Line) → length (offered s r m .reply) ≤ 24
 offered-short s Reading.Read m = sends-short (m .fields .id)
-offered-short s (Reading.Refused n) m = errs-short (tokenOf s)
+offered-short s (Reading.Refused n) m = errs-short (errorToken s)
 
 heard-short : (k : Kind) (s : List ℕ) → length (heardAs k s .reply) ≤ 24
 heard-short Kind.Ihave s = offered-short s (readOf s .reading) (readOf s .line)

@@ -31,7 +31,7 @@ told-as a t reply after x k = (ap {B = answer.Record} (λ (y : Telling). record 
 
 -- a refusal says nothing
 pub refused-as : (s : Session) (n : ℕ) (reply after : List ℕ) (r : answer.Record)
-    → (r ≡ spoken (answer.refused n) (record { used = 0; stop = Stop.Quiet; session = s }) reply) × (after ≡ placed [] 0 reply) → (r ≡ refused s [] n .answered) × (after ≡ reply)
+    → (r ≡ spoken (answer.refused n) (record { used = 0; stop = Stop.Quiet; session = s }) reply) × (after ≡ placed [] 0 reply) → (r ≡ refused s [] n .stepRecord) × (after ≡ reply)
 refused-as s n reply after r k =
     let w = silent reply in
     (k .0 ∙ (λ i. record { answer = answer.refused n; used = 0; happening = nothing; written = sym (w .0) i; next = s }), k .1 ∙ sym (w .1))

@@ -35,14 +35,14 @@ module _ (s : Session) (piece pl : List ℕ) (room : ℕ) where
 
 -- the three equations of a call's contract, from what it came to
 abbrev Comes : Outcome → answer.Record → List ℕ → List ℕ → List ℕ → Type 0
-Comes o r payload reply replyAfter = (r ≡ o .answered) × (payload ≡ o .payload) × (replyAfter ≡ front (o .reply) reply)
+Comes o r payload reply replyAfter = (r ≡ o .stepRecord) × (payload ≡ o .payload) × (replyAfter ≡ front (o .reply) reply)
 
 comes-as : (o x : Outcome) (r : answer.Record) (payload reply replyAfter : List ℕ) → x ≡ o → Comes o r payload reply replyAfter → Comes x r payload reply replyAfter
-comes-as o x r payload reply replyAfter e k = (k .0 ∙ ap (λ (y : Outcome). y .answered) (sym e), k .1 ∙ ap (λ (y : Outcome). y .payload) (sym e), k .2 ∙ ap (λ (y : Outcome). front (y .reply) reply) (sym e))
+comes-as o x r payload reply replyAfter e k = (k .0 ∙ ap (λ (y : Outcome). y .stepRecord) (sym e), k .1 ∙ ap (λ (y : Outcome). y .payload) (sym e), k .2 ∙ ap (λ (y : Outcome). front (y .reply) reply) (sym e))
 
 -- a refusal, by its number
 pub refusal : (s : Session) (piece pl reply after : List ℕ) (r : answer.Record) (n : ℕ) → n ≡ stepRefusal s (length pl) (length reply) → 0 < n
-    → (r ≡ refused s [] n .answered) × (after ≡ reply) → Comes (stepOf s piece pl (length reply)) r pl reply after
+    → (r ≡ refused s [] n .stepRecord) × (after ≡ reply) → Comes (stepOf s piece pl (length reply)) r pl reply after
 unfolding stepOf
 refusal s piece pl reply after r n e h k =
     comes-as (refused s pl n) (stepOf s piece pl (length reply)) r pl reply after

@@ -17,14 +17,14 @@ use Rattle.session.specs.Feed.{feed}
 
 -- what a call comes to: its record, the payload buffer after it, and the reply, which stands at the front of the reply buffer
 pub record Outcome : Type 0 where
-  pub answered : answer.Record
+  pub stepRecord : answer.Record
   pub payload : List ℕ
   pub reply : List ℕ
 
 -- a refusal: its number, and everything as it was
 abbrev pub refused : Session → List ℕ → ℕ → Outcome
 refused s pl n = record {
-  answered = record { answer = answer.refused n; used = 0; happening = nothing; written = 0; next = s };
+  stepRecord = record { answer = answer.refused n; used = 0; happening = nothing; written = 0; next = s };
   payload = pl;
   reply = [];
 }
@@ -38,7 +38,7 @@ abbrev pub stored : Session → List ℕ → List ℕ → List ℕ
 stored s bytes pl = if s .mode =? 2 then placed bytes (s .got) pl else pl
 
 abbrev pub went : Session → List ℕ → List ℕ → Out Session Happening → Outcome
-went s piece pl o = record { answered = made o; payload = stored s (take (o .used) piece) pl; reply = o .reply }
+went s piece pl o = record { stepRecord = made o; payload = stored s (take (o .used) piece) pl; reply = o .reply }
 
 -- where nothing refuses the call (session_rules, stepRefusal), the piece is fed up to the end of a line or of a payload
 unfoldable pub stepOf : Session → List ℕ → List ℕ → ℕ → Outcome

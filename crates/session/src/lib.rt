@@ -68,7 +68,7 @@ pub fn open_session(reply: &mut [u8]) -> Opened
 
 // Feeds a piece of the peer's bytes, up to the end of a line or of a payload.
 pub fn feed(s: Session, piece: &[u8], payload: &mut [u8], reply: &mut [u8]) -> Step
-    ensures { λ r. ⌜ (says r ≡ stepOf s (now (piece .entry)) (now (payload .entry)) (length (now (reply .entry))) .answered) × (now (payload .exit) ≡ stepOf s (now (piece .entry)) (now (payload .entry)) (length (now (reply .entry))) .payload) × (now (reply .exit) ≡ front (stepOf s (now (piece .entry)) (now (payload .entry)) (length (now (reply .entry))) .reply) (now (reply .entry))) ⌝ }
+    ensures { λ r. ⌜ (says r ≡ stepOf s (now (piece .entry)) (now (payload .entry)) (length (now (reply .entry))) .stepRecord) × (now (payload .exit) ≡ stepOf s (now (piece .entry)) (now (payload .entry)) (length (now (reply .entry))) .payload) × (now (reply .exit) ≡ front (stepOf s (now (piece .entry)) (now (payload .entry)) (length (now (reply .entry))) .reply) (now (reply .entry))) ⌝ }
 {
     let number = session_rules::refusal(s, payload.len(), reply.len());
     if number > 0 {

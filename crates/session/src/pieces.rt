@@ -37,7 +37,7 @@ pub(crate) fn tell(stepping: Stepping, t: Intake, reply: &mut [u8]) -> Step
 }
 
 pub(crate) fn refuse(s: Session, number: u8, reply: &mut [u8]) -> Step
-    ensures { λ r. ⌜ (says r ≡ refused s [] number .answered) × (now (reply .exit) ≡ now (reply .entry)) ⌝ }
+    ensures { λ r. ⌜ (says r ≡ refused s [] number .stepRecord) × (now (reply .exit) ≡ now (reply .entry)) ⌝ }
 {
     let still = Intake {
         used: 0,

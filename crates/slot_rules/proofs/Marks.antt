@@ -29,7 +29,7 @@ marked-more l marks n v h m e i k = go (ℕ-discrete i n)
 -- a slot that has the key has the key's mark
 pub key-marks : (k : Key) (i : ℕ) (x : Slot) → hasKey k x ≡ true → markAt i x ≡ markOf (streamIdOf k)
 unfolding hasKey
-key-marks k i x e = if-yes _ _ _ (and-left (x .used) _ e) ∙ sym (marks-same k (x .key) (and-right (x .used) _ e))
+key-marks k i x e = if-yes _ _ _ (and-left (x .«is_open») _ e) ∙ sym (marks-same k (x .key) (and-right (x .«is_open») _ e))
 
 -- so a slot with another mark has not the key
 pub key-unlike : (k : Key) (i : ℕ) (x : Slot) (mark own : ℕ) → mark ≡ markOf (streamIdOf k) → own ≡ markAt i x → (own ≡ mark → ⊥) → hasKey k x ≡ false
@@ -41,10 +41,10 @@ key-unlike k i x mark own p q d = go (hasKey k x) refl
 
 -- two slots with unlike marks are not alike
 pub marks-unlike : (l : List Slot) (marks : List ℕ) (i j : ℕ) → Marked l marks 32 → i < 32 → j < 32 → (getD marks j 0 ≡ getD marks i 0 → ⊥)
-    → (slotIn l i .used and hasKey (slotIn l i .key) (slotIn l j)) ≡ false
-marks-unlike l marks i j m h k d = go (slotIn l i .used) refl
+    → (slotIn l i .«is_open» and hasKey (slotIn l i .key) (slotIn l j)) ≡ false
+marks-unlike l marks i j m h k d = go (slotIn l i .«is_open») refl
   where
-    go : (b : Bool) → slotIn l i .used ≡ b → (slotIn l i .used and hasKey (slotIn l i .key) (slotIn l j)) ≡ false
+    go : (b : Bool) → slotIn l i .«is_open» ≡ b → (slotIn l i .«is_open» and hasKey (slotIn l i .key) (slotIn l j)) ≡ false
     go false u = and-not-left _ _ u
     go true u =
         and-next _ _ u
@@ -52,11 +52,11 @@ marks-unlike l marks i j m h k d = go (slotIn l i .used) refl
 
 -- a turn of the inner loop, x being the slot of the outer one
 module _ (x : Slot) (l : List Slot) (j : ℕ) (h : j < length l) where
-  pub twice-here : (x .used and hasKey (x .key) (getD l j pastSlot)) ≡ true → twice x (drop j l) ≡ true
-  twice-here e = rw (drop-next l j pastSlot h) (and-next (x .used) _ (and-left (x .used) _ e) ∙ or-left _ _ (and-right (x .used) _ e))
+  pub twice-here : (x .«is_open» and hasKey (x .key) (getD l j pastSlot)) ≡ true → twice x (drop j l) ≡ true
+  twice-here e = rw (drop-next l j pastSlot h) (and-next (x .«is_open») _ (and-left (x .«is_open») _ e) ∙ or-left _ _ (and-right (x .«is_open») _ e))
 
-  pub twice-next : (x .used and hasKey (x .key) (getD l j pastSlot)) ≡ false → twice x (drop j l) ≡ twice x (drop (j + 1) l)
-  twice-next e = rw (drop-next l j pastSlot h) (go (x .used) e)
+  pub twice-next : (x .«is_open» and hasKey (x .key) (getD l j pastSlot)) ≡ false → twice x (drop j l) ≡ twice x (drop (j + 1) l)
+  twice-next e = rw (drop-next l j pastSlot h) (go (x .«is_open») e)
     where
       go : (b : Bool) → b and hasKey (x .key) (getD l j pastSlot) ≡ false
           → b and (hasKey (x .key) (getD l j pastSlot) or some (hasKey (x .key)) (drop (j + 1) l)) ≡ b and some (hasKey (x .key)) (drop (j + 1) l)
@@ -64,7 +64,7 @@ module _ (x : Slot) (l : List Slot) (j : ℕ) (h : j < length l) where
       go false q = refl
 
 pub twice-end : (x : Slot) → twice x [] ≡ false
-twice-end x = go (x .used)
+twice-end x = go (x .«is_open»)
   where
     go : (b : Bool) → b and false ≡ false
     go true = refl

@@ -14,7 +14,7 @@ use Rattle.slot_rules.specs.Slots.{Found, twice, distinct, first, openCo
 -- ---- a turn of a loop
 
 module _ (l : List Slot) (i : ℕ) (d : Slot) (h : i < length l) where
-  pub count-next : openCount (drop i l) ≡ (if getD l i d .used then 1 else 0) + openCount (drop (i + 1) l)
+  pub count-next : openCount (drop i l) ≡ (if getD l i d .«is_open» then 1 else 0) + openCount (drop (i + 1) l)
   count-next = rw (drop-next l i d h)
 
   pub distinct-not : twice (getD l i d) (drop (i + 1) l) ≡ true → distinct (drop i l) ≡ false

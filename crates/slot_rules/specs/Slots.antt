@@ -14,7 +14,7 @@ use Rattle.slot_rules.specs.declared.Ruled.{Ruled}
 
 -- the slot is open, and one of the rest has its key
 abbrev pub twice : Slot → List Slot → Bool
-twice x rest = x .used and some (hasKey (x .key)) rest
+twice x rest = x .«is_open» and some (hasKey (x .key)) rest
 
 -- no two open rows have equal keys
 abbrev pub distinct : List Slot → Bool
@@ -40,7 +40,7 @@ first p n (x ∷ rest) = if p x then Found.At n else first p (n + 1) rest
 -- how many are open
 abbrev pub openCount : List Slot → ℕ
 openCount [] = 0
-openCount (x ∷ rest) = (if x .used then 1 else 0) + openCount rest
+openCount (x ∷ rest) = (if x .«is_open» then 1 else 0) + openCount rest
 
 abbrev pub slotIn : List Slot → ℕ → Slot
 slotIn l i = getD l i pastSlot

@@ -11,7 +11,7 @@ use Rattle.slot_rules.specs.Slots.{Found, first, slotIn}
 
 -- the mark of slot i: that of its key, where it is open
 abbrev pub markAt : ℕ → Slot → ℕ
-markAt i x = if x .used then markOf (streamIdOf (x .key)) else (4294967296 + i)
+markAt i x = if x .«is_open» then markOf (streamIdOf (x .key)) else (4294967296 + i)
 
 -- the marks of the first n slots
 abbrev pub Marked : List Slot → List ℕ → ℕ → Type 0

@@ -33,8 +33,8 @@ pub fn test(slots: [Slot; 32], key: Key) -> Ruled
         }
         marks[i] = mark_of(x, i);
         found = seen(found, i, x.has_key(key));
-        free = seen(free, i, !x.used);
-        rows += one(x.used);
+        free = seen(free, i, !x.is_open);
+        rows += one(x.is_open);
         i += 1;
     }
     let mut k: usize = 0;
@@ -100,7 +100,7 @@ fn mark_of(x: Slot, i: usize) -> u64
     requires { ⌜ i < 32 ⌝ }
     ensures { λ r. ⌜ r ≡ markAt i x ⌝ }
 {
-    if !x.used {
+    if !x.is_open {
         return 4294967296 + lengths::wide_size(i);
     }
     let key = x.key;

@@ -11,27 +11,27 @@ use Rattle.slots.specs.declared.Slot.{Slot}
 -- a free row is all zero
 
 abbrev pub freeSlot : Slot
-freeSlot = record { used = false; key = noKey; row = noRow }
+freeSlot = record { «is_open» = false; key = noKey; row = noRow }
 
 abbrev pub isFree : Slot → Bool
-isFree x = no (x .used)
+isFree x = no (x .«is_open»)
 
 unfoldable pub keepsSlot : Slot → Bool
-keepsSlot x = if x .used then keepsKey (x .key) and keepsRow (x .row) else isNoKey (x .key) and isNoRow (x .row)
+keepsSlot x = if x .«is_open» then keepsKey (x .key) and keepsRow (x .row) else isNoKey (x .key) and isNoRow (x .row)
 
 -- the slot is open and has the key
 unfoldable pub hasKey : Key → Slot → Bool
-hasKey k x = x .used and sameKey k (x .key)
+hasKey k x = x .«is_open» and sameKey k (x .key)
 
 -- the slot that an offer with the key goes to: an open one as it is, a free one with a new row
 abbrev pub slotFor : Key → Slot → Slot
-slotFor k x = if x .used then x else record { used = true; key = k; row = rowOf fresh }
+slotFor k x = if x .«is_open» then x else record { «is_open» = true; key = k; row = rowOf fresh }
 
 -- what a list gives past its end
 abbrev pub pastSlot : Slot
 pastSlot =
     record {
-      used = false;
+      «is_open» = false;
       key = record { originator = []; «originator_len» = 0; «stream_id» = []; «stream_id_len» = 0 };
       row = record { expected = 0; clock = 0; «gap_start» = 0; count = 0; held = [] };
     }

@@ -6,7 +6,7 @@ use keys::Key;
 use rows::Row;
 
 pub struct Slot {
-    pub used: bool,
+    pub is_open: bool,
     pub key: Key,
     pub row: Row,
 }
@@ -19,7 +19,7 @@ impl Slot {
         let key = keys::none();
         let row = Row::none();
         Slot {
-            used: false,
+            is_open: false,
             key: key,
             row: row,
         }
@@ -31,7 +31,7 @@ impl Slot {
     {
         let key = self.key;
         let row = self.row;
-        if self.used {
+        if self.is_open {
             if !keys::keeps_rules(key) {
                 return false;
             }
@@ -47,7 +47,7 @@ impl Slot {
     pub fn has_key(self, key: Key) -> bool
         ensures { λ r. ⌜ r ≡ hasKey key self ⌝ }
     {
-        if !self.used {
+        if !self.is_open {
             return false;
         }
         let own = self.key;
@@ -56,9 +56,9 @@ impl Slot {
 
     // Whether the slot is open, and another has its key.
     pub fn is_alike(self, other: Slot) -> bool
-        ensures { λ r. ⌜ r ≡ (self .used and hasKey (self .key) other) ⌝ }
+        ensures { λ r. ⌜ r ≡ (self .«is_open» and hasKey (self .key) other) ⌝ }
     {
-        if !self.used {
+        if !self.is_open {
             return false;
         }
         let key = self.key;
@@ -69,12 +69,12 @@ impl Slot {
     pub fn for_key(self, key: Key) -> Slot
         ensures { λ r. ⌜ r ≡ slotFor key self ⌝ }
     {
-        if self.used {
+        if self.is_open {
             return self;
         }
         let row = Row::new();
         Slot {
-            used: true,
+            is_open: true,
             key: key,
             row: row,
         }

@@ -29,7 +29,7 @@ use Rattle.lookups.specs.declared.Lookup.{Lookup}
 use Rattle.streams.specs.Table.{isFree, keepsSlot, hasKey, distinct, keepsTable, keepsSlots, first, openCount, slotAt, withSlot, freeSlot}
 use Rattle.streams.specs.Calls.{place, lookUp, onRow, opens, offerBy, offer, takeBy, take, forceBy, force, closeBy, close}
 use Rattle.slot_rules.proofs.Search.{first-bound}
-use Rattle.streams.proofs.Places.{place-at, first-place, used-key, not-free}
+use Rattle.streams.proofs.Places.{place-at, first-place, open-key, not-free}
 
 -- a table that keeps the rules
 pub record Kept (t : Table) : Type 0 where
@@ -51,7 +51,7 @@ kept t e =
 abbrev pub offerAt : Table → Held → ℕ → ℕ → Slot → Outcome Table
 offerAt t m time i y =
     let o = offerOf (y .row) m time in
-    record { answer = o .answer; after = withSlot t i (record { used = y .used; key = y .key; row = o .after }) }
+    record { answer = o .answer; after = withSlot t i (record { «is_open» = y .«is_open»; key = y .key; row = o .after }) }
 
 module _ (t : Table) (named : Named) where
   -- by the tests in their order
@@ -69,7 +69,7 @@ module _ (t : Table) (named : Named) where
   -- what stands there: an open row is one of the 32
   abbrev Stands : Lookup → Type 0
   Stands (Lookup.Refused n) = Unit {0}
-  Stands (Lookup.Open i) = (i < 32) × (slotAt t i .used ≡ true)
+  Stands (Lookup.Open i) = (i < 32) × (slotAt t i .«is_open» ≡ true)
   Stands Lookup.Unknown = Unit {0}
 
   stands : Stands (lookUp t named)
@@ -78,7 +78,7 @@ module _ (t : Table) (named : Named) where
       found : keepsTable t ≡ true → (f : Found) → f ≡ first (hasKey (named .key)) 0 (t .slots) → Stands (place f)
       found k (Found.At i) q =
           let p = place-at (first-place (hasKey (named .key)) i (t .slots) q) in
-          (omega (arith, kept t k .long, p .1), used-key (named .key) (slotAt t i) (p .0))
+          (omega (arith, kept t k .long, p .1), open-key (named .key) (slotAt t i) (p .0))
       found k Found.Nothing q = tt
 
   -- what the code looked up stands for the key
@@ -162,7 +162,7 @@ module _ (t : Table) (named : Named) where
         into (Found.At i) q =
             let p = place-at (first-place isFree i (t .slots) q) in
             let b : i < 32 = omega (arith, h, p .1) in
-            rw (lt-ltb i 32 b) (b, ap (offerAt t m time i) (if-no (slotAt t i .used) (slotAt t i) (record { used = true; key = k; row = rowOf fresh }) (not-free (slotAt t i .used) (p .0))))
+            rw (lt-ltb i 32 b) (b, ap (offerAt t m time i) (if-no (slotAt t i .«is_open») (slotAt t i) (record { «is_open» = true; key = k; row = rowOf fresh }) (not-free (slotAt t i .«is_open») (p .0))))
         into Found.Nothing q = refl
 
         new : (b : Bool) → Ends (if b then Target.Refused stale else if freeAt <? 32 then Target.At freeAt else Target.Refused noFreeRow) (if b then refuse stale t else opens t k (offerOf (rowOf fresh) m time) (first isFree 0 (t .slots)))
@@ -171,7 +171,7 @@ module _ (t : Table) (named : Named) where
 
         go : (l : Lookup) → Stands l → Ends (offerTarget (m .number) freeAt l) (offerBy t k m time l)
         go (Lookup.Refused n) w = refl
-        go (Lookup.Open i) w = (w .0, ap (offerAt t m time i) (if-yes (slotAt t i .used) (slotAt t i) (record { used = true; key = k; row = rowOf fresh }) (w .1)))
+        go (Lookup.Open i) w = (w .0, ap (offerAt t m time i) (if-yes (slotAt t i .«is_open») (slotAt t i) (record { «is_open» = true; key = k; row = rowOf fresh }) (w .1)))
         go Lookup.Unknown w = new (m .number <? 1)
 
     pub offer-not : (n : ℕ) → length (t .slots) ≡ 32 → Target.Refused n ≡ offerTarget (m .number) freeAt (lookUp t named) → refuse n t ≡ offerBy t k m time (lookUp t named)
@@ -182,14 +182,14 @@ module _ (t : Table) (named : Named) where
 
 -- ---- an answer from its parts: what the row's call said, and the table with the row after it
 pub on-row : (t : Table) (i : ℕ) (a : Answer) (r : Row) (o : Outcome Row) → _≡_ {A = Outcome Row} (record { answer = a; after = r }) o
-    → _≡_ {A = Outcome Table} (record { answer = a; after = withSlot t i (record { used = slotAt t i .used; key = slotAt t i .key; row = r }) }) (onRow t i o)
+    → _≡_ {A = Outcome Table} (record { answer = a; after = withSlot t i (record { «is_open» = slotAt t i .«is_open»; key = slotAt t i .key; row = r }) }) (onRow t i o)
 on-row t i a r o e = ap (onRow t i) e
 
 -- the same at the slot that an offer goes to
 pub on-slot : (t : Table) (m : Held) (time i : ℕ) (x y : Slot) (a : Answer) (r : Row) → x ≡ y → _≡_ {A = Outcome Row} (record { answer = a; after = r }) (offerOf (x .row) m time)
-    → _≡_ {A = Outcome Table} (record { answer = a; after = withSlot t i (record { used = x .used; key = x .key; row = r }) }) (offerAt t m time i y)
+    → _≡_ {A = Outcome Table} (record { answer = a; after = withSlot t i (record { «is_open» = x .«is_open»; key = x .key; row = r }) }) (offerAt t m time i y)
 on-slot t m time i x y a r e h =
-    ap {B = Outcome Table} (λ (o : Outcome Row). record { answer = o .answer; after = withSlot t i (record { used = x .used; key = x .key; row = o .after }) }) h ∙ ap (offerAt t m time i) e
+    ap {B = Outcome Table} (λ (o : Outcome Row). record { answer = o .answer; after = withSlot t i (record { «is_open» = x .«is_open»; key = x .key; row = o .after }) }) h ∙ ap (offerAt t m time i) e
 
 -- something is held, or the row is free again
 module _ (t : Table) (i : ℕ) where

@@ -29,13 +29,13 @@ use Rattle.lookups.specs.declared.Lookup.{Lookup}
 use Rattle.streams.specs.Table.{freeSlot, isFree, keepsSlot, hasKey, first, slotAt, withSlot, pastSlot}
 use Rattle.streams.specs.Calls.{place, lookUp, onRow, opens, offerBy, offer, takeBy, take, forceBy, force, closeBy, close}
 use Rattle.streams.proofs.Lookups.{Kept, kept, by-lookup}
-use Rattle.streams.proofs.Places.{Place, place-at, first-place, first-none, used-key}
+use Rattle.streams.proofs.Places.{Place, place-at, first-place, first-none, open-key}
 
 pub data Move (t : Table) (k : Key) : Outcome Table → Type 0 where
   refusing : (n : ℕ) → Move t k (refuse n t)
   moving : {i : ℕ} (o : Outcome Row) → Kept t → Place (hasKey k) (t .slots) i → Unmoved (slotAt t i .row) o → keepsRow (o .after) ≡ true → Move t k (onRow t i o)
   opening : {i : ℕ} (r : Row) → Kept t → Place isFree (t .slots) i → some (hasKey k) (t .slots) ≡ false → keepsKey k ≡ true → keepsRow r ≡ true
-      → Move t k (record { answer = accepted; after = withSlot t i (record { used = true; key = k; row = r }) })
+      → Move t k (record { answer = accepted; after = withSlot t i (record { «is_open» = true; key = k; row = r }) })
   freeing : {i : ℕ} → Kept t → Place (hasKey k) (t .slots) i → Move t k (record { answer = accepted; after = withSlot t i freeSlot })
 
 -- on a fresh row every number from 1 on is accepted
@@ -62,7 +62,7 @@ unfolding keepsSlot
 row-keeps t k i g p =
     let h = place-at p in
     let s = every-at keepsSlot (t .slots) i pastSlot (g .each) (h .1) in
-    let u = used-key k (slotAt t i) (h .0) in
+    let u = open-key k (slotAt t i) (h .0) in
     and-right (keepsKey (slotAt t i .key)) _ (sym (if-yes _ _ _ u) ∙ s)
 
 module _ (t : Table) (o s : List ℕ) where
@@ -89,7 +89,7 @@ module _ (t : Table) (o s : List ℕ) where
       where
         into : Kept t → keepsKey k ≡ true → some (hasKey k) (t .slots) ≡ false → 1 ≤ m .number → (f : Found) → f ≡ first isFree 0 (t .slots) → Move t k (opens t k (offerOf (rowOf fresh) m time) f)
         into g a n h (Found.At i) q =
-            subst (λ (b : Answer). Move t k (record { answer = b; after = withSlot t i (record { used = true; key = k; row = offerOf (rowOf fresh) m time .after }) })) (sym (fresh-accepts m time h))
+            subst (λ (b : Answer). Move t k (record { answer = b; after = withSlot t i (record { «is_open» = true; key = k; row = offerOf (rowOf fresh) m time .after }) })) (sym (fresh-accepts m time h))
             (opening (offerOf (rowOf fresh) m time .after) g (first-place isFree i (t .slots) q) n a (offer-keeps-row (rowOf fresh) fresh-keeps time w m v))
         into g a n h Found.Nothing q = refusing 13
 

@@ -73,59 +73,59 @@ some-at p (x ∷ l) (suc i) e d = some-at p l i (or-no (p x) _ e .1) d
 -- a slot has at most one key
 pub one-key : (j k : Key) (x : Slot) → sameKey j k ≡ false → hasKey k x ≡ true → hasKey j x ≡ false
 unfolding hasKey
-one-key j k x n e = go (x .used and sameKey j (x .key)) refl
+one-key j k x n e = go (x .«is_open» and sameKey j (x .key)) refl
   where
-    go : (b : Bool) → (x .used and sameKey j (x .key)) ≡ b → (x .used and sameKey j (x .key)) ≡ false
+    go : (b : Bool) → (x .«is_open» and sameKey j (x .key)) ≡ b → (x .«is_open» and sameKey j (x .key)) ≡ false
     go false q = q
-    go true q = true-not-false (sameKey j k) (sameKey-trans j (x .key) k (and-right (x .used) _ q) (sameKey-sym k (x .key) (and-right (x .used) _ e))) n
+    go true q = true-not-false (sameKey j k) (sameKey-trans j (x .key) k (and-right (x .«is_open») _ q) (sameKey-sym k (x .key) (and-right (x .«is_open») _ e))) n
 
-pub free-key : (k : Key) (x : Slot) → x .used ≡ false → hasKey k x ≡ false
+pub free-key : (k : Key) (x : Slot) → x .«is_open» ≡ false → hasKey k x ≡ false
 unfolding hasKey
 free-key k x e = rw e
 
-pub used-key : (k : Key) (x : Slot) → hasKey k x ≡ true → x .used ≡ true
+pub open-key : (k : Key) (x : Slot) → hasKey k x ≡ true → x .«is_open» ≡ true
 unfolding hasKey
-used-key k x e = and-left (x .used) _ e
+open-key k x e = and-left (x .«is_open») _ e
 
 keyed : (k : Key) (x : Slot) → hasKey k x ≡ true → sameKey k (x .key) ≡ true
 unfolding hasKey
-keyed k x e = and-right (x .used) _ e
+keyed k x e = and-right (x .«is_open») _ e
 
-pub own-key : (k : Key) (r : Row) → hasKey k (record { used = true; key = k; row = r }) ≡ true
+pub own-key : (k : Key) (r : Row) → hasKey k (record { «is_open» = true; key = k; row = r }) ≡ true
 unfolding hasKey
 own-key k r = sameKey-refl k
 
 -- another row in the slot leaves its key
-pub same-key : (k : Key) (x : Slot) (r : Row) → hasKey k (record { used = x .used; key = x .key; row = r }) ≡ hasKey k x
+pub same-key : (k : Key) (x : Slot) (r : Row) → hasKey k (record { «is_open» = x .«is_open»; key = x .key; row = r }) ≡ hasKey k x
 unfolding hasKey
 same-key k x r = refl
 
 -- equal keys are had by the same slots
 pub as-key : (j k : Key) (x : Slot) → sameKey j k ≡ true → hasKey j x ≡ hasKey k x
 unfolding hasKey
-as-key j k x e = ap (λ (b : Bool). x .used and b) (sameKey-other j k (x .key) e)
+as-key j k x e = ap (λ (b : Bool). x .«is_open» and b) (sameKey-other j k (x .key) e)
 
 -- ---- distinct keys after a slot is set
 
 -- the new slot y claims no key that the slot x before it did not claim
 abbrev pub NoMore : Slot → Slot → Type 0
-NoMore x y = y .used ≡ true → (x .used ≡ true) × (x .key ≡ y .key)
+NoMore x y = y .«is_open» ≡ true → (x .«is_open» ≡ true) × (x .key ≡ y .key)
 
 more-key : (k : Key) (x y : Slot) → NoMore x y → hasKey k x ≡ false → hasKey k y ≡ false
 unfolding hasKey
-more-key k x y c e = go (y .used) refl
+more-key k x y c e = go (y .«is_open») refl
   where
-    go : (b : Bool) → y .used ≡ b → (y .used and sameKey k (y .key)) ≡ false
+    go : (b : Bool) → y .«is_open» ≡ b → (y .«is_open» and sameKey k (y .key)) ≡ false
     go false q = rw q
     go true q =
         let w = c q in
-        let n : sameKey k (x .key) ≡ false = sym (and-next (x .used) _ (w .0)) ∙ e in
+        let n : sameKey k (x .key) ≡ false = sym (and-next (x .«is_open») _ (w .0)) ∙ e in
         let m : sameKey k (y .key) ≡ false = rw (← w .1) n in
-        and-next (y .used) _ q ∙ m
+        and-next (y .«is_open») _ q ∙ m
 
 -- whether a slot's key stands in the rest, for any rest in which its key does not
 twice-less : (x : Slot) (l m : List Slot) → (some (hasKey (x .key)) l ≡ false → some (hasKey (x .key)) m ≡ false) → twice x l ≡ false → twice x m ≡ false
-twice-less x l m f e = go (x .used) e
+twice-less x l m f e = go (x .«is_open») e
   where
     go : (b : Bool) → b and some (hasKey (x .key)) l ≡ false → b and some (hasKey (x .key)) m ≡ false
     go true q = f q
@@ -141,43 +141,43 @@ no-is b e = rw e
 pub distinct-less : (l : List Slot) (i : ℕ) (y : Slot) → distinct l ≡ true → NoMore (getD l i pastSlot) y → distinct (set l i y) ≡ true
 distinct-less [] i y e c = refl
 distinct-less (x ∷ l) zero y e c =
-    and-both _ _ (no-is _ (go (y .used) refl)) (and-right (no (twice x l)) _ e)
+    and-both _ _ (no-is _ (go (y .«is_open») refl)) (and-right (no (twice x l)) _ e)
   where
-    go : (b : Bool) → y .used ≡ b → twice y l ≡ false
+    go : (b : Bool) → y .«is_open» ≡ b → twice y l ≡ false
     go false q = rw q
     go true q =
         let w = c q in
         let t : twice x l ≡ false = not-free _ (and-left (no (twice x l)) _ e) in
-        let s : some (hasKey (x .key)) l ≡ false = sym (and-next (x .used) _ (w .0)) ∙ t in
+        let s : some (hasKey (x .key)) l ≡ false = sym (and-next (x .«is_open») _ (w .0)) ∙ t in
         let u : some (hasKey (y .key)) l ≡ false = rw (← w .1) s in
-        and-next (y .used) _ q ∙ u
+        and-next (y .«is_open») _ q ∙ u
 distinct-less (x ∷ l) (suc i) y e c =
     and-both _ _
     (no-is _ (twice-less x l (set l i y) (λ s. some-set (hasKey (x .key)) l i y s (more-key (x .key) (getD l i pastSlot) y c (some-at (hasKey (x .key)) l i s (free-key (x .key) pastSlot refl)))) (not-free _ (and-left (no (twice x l)) _ e))))
     (distinct-less l i y (and-right (no (twice x l)) _ e) c)
 
 -- a slot that has not the key k is not had by k
-other-key : (k : Key) (x : Slot) (r : Row) → x .used ≡ true → hasKey k x ≡ false → hasKey (x .key) (record { used = true; key = k; row = r }) ≡ false
+other-key : (k : Key) (x : Slot) (r : Row) → x .«is_open» ≡ true → hasKey k x ≡ false → hasKey (x .key) (record { «is_open» = true; key = k; row = r }) ≡ false
 unfolding hasKey
 other-key k x r q n = flip (sameKey (x .key) k) refl
   where
     flip : (b : Bool) → sameKey (x .key) k ≡ b → sameKey (x .key) k ≡ false
     flip false z = z
-    flip true z = true-not-false (x .used and sameKey k (x .key)) (and-both _ _ q (sameKey-sym (x .key) k z)) n
+    flip true z = true-not-false (x .«is_open» and sameKey k (x .key)) (and-both _ _ q (sameKey-sym (x .key) k z)) n
 
 -- a key that no slot has may stand in any slot
-pub distinct-new : (l : List Slot) (i : ℕ) (k : Key) (r : Row) → distinct l ≡ true → some (hasKey k) l ≡ false → distinct (set l i (record { used = true; key = k; row = r })) ≡ true
+pub distinct-new : (l : List Slot) (i : ℕ) (k : Key) (r : Row) → distinct l ≡ true → some (hasKey k) l ≡ false → distinct (set l i (record { «is_open» = true; key = k; row = r })) ≡ true
 distinct-new [] i k r e n = refl
 distinct-new (x ∷ l) zero k r e n = and-both _ _ (no-is _ (or-no (hasKey k x) _ n .1)) (and-right (no (twice x l)) _ e)
 distinct-new (x ∷ l) (suc i) k r e n =
-    and-both _ _ (no-is _ (go (x .used) refl)) (distinct-new l i k r (and-right (no (twice x l)) _ e) (or-no (hasKey k x) _ n .1))
+    and-both _ _ (no-is _ (go (x .«is_open») refl)) (distinct-new l i k r (and-right (no (twice x l)) _ e) (or-no (hasKey k x) _ n .1))
   where
-    go : (b : Bool) → x .used ≡ b → twice x (set l i (record { used = true; key = k; row = r })) ≡ false
+    go : (b : Bool) → x .«is_open» ≡ b → twice x (set l i (record { «is_open» = true; key = k; row = r })) ≡ false
     go false q = rw q
     go true q =
         let t : twice x l ≡ false = not-free _ (and-left (no (twice x l)) _ e) in
-        let s : some (hasKey (x .key)) l ≡ false = sym (and-next (x .used) _ q) ∙ t in
-        and-next (x .used) _ q ∙ some-set (hasKey (x .key)) l i (record { used = true; key = k; row = r }) s (other-key k x r q (or-no (hasKey k x) _ n .0))
+        let s : some (hasKey (x .key)) l ≡ false = sym (and-next (x .«is_open») _ q) ∙ t in
+        and-next (x .«is_open») _ q ∙ some-set (hasKey (x .key)) l i (record { «is_open» = true; key = k; row = r }) s (other-key k x r q (or-no (hasKey k x) _ n .0))
 
 -- ---- the row that stands for a key
 
@@ -221,6 +221,6 @@ module _ (k : Key) where
   pub row-gone : {l : List Slot} {i : ℕ} (y : Slot) → Place (hasKey k) l i → distinct l ≡ true → hasKey k y ≡ false → rowIn k (set l i y) ≡ none
   row-gone y (here {x} {l} e) d h =
       let t : twice x l ≡ false = not-free _ (and-left (no (twice x l)) _ d) in
-      let s : some (hasKey (x .key)) l ≡ false = sym (and-next (x .used) _ (used-key k x e)) ∙ t in
+      let s : some (hasKey (x .key)) l ≡ false = sym (and-next (x .«is_open») _ (open-key k x e)) ∙ t in
       if-no _ _ _ h ∙ row-none l (sym (as-some (x .key) l (sameKey-sym k (x .key) (keyed k x e))) ∙ s)
   row-gone y (there {x} {l} {i} e q) d h = if-no _ _ _ e ∙ row-gone y q (and-right (no (twice x l)) _ d) h

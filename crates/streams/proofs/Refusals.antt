@@ -16,9 +16,9 @@ use Rattle.streams.specs.Table.{slotAt, withSlot, pastSlot}
 use Rattle.streams.specs.Calls.{offer, take, force, close}
 use Rattle.streams.proofs.Moves.{Move, refusing, moving, opening, freeing, offer-moves, take-moves, force-moves, close-moves}
 
-same-row : (t : Table) (i : ℕ) (r : Row) → r ≡ slotAt t i .row → withSlot t i (record { used = slotAt t i .used; key = slotAt t i .key; row = r }) ≡ t
+same-row : (t : Table) (i : ℕ) (r : Row) → r ≡ slotAt t i .row → withSlot t i (record { «is_open» = slotAt t i .«is_open»; key = slotAt t i .key; row = r }) ≡ t
 same-row t i r e =
-    ap {B = Table} (λ (q : Row). withSlot t i (record { used = slotAt t i .used; key = slotAt t i .key; row = q })) e
+    ap {B = Table} (λ (q : Row). withSlot t i (record { «is_open» = slotAt t i .«is_open»; key = slotAt t i .key; row = q })) e
     ∙ ap {B = Table} (λ (l : List Slot). record { slots = l }) (set-getD (t .slots) i pastSlot)
 
 pub move-unmoved : {t : Table} {k : Key} {o : Outcome Table} → Move t k o → Unmoved t o

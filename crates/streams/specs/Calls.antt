@@ -32,12 +32,12 @@ lookUp t named =
 
 -- a row's call, made on row i of the table
 abbrev pub onRow : Table → ℕ → Outcome Row → Outcome Table
-onRow t i o = record { answer = o .answer; after = withSlot t i (record { used = slotAt t i .used; key = slotAt t i .key; row = o .after }) }
+onRow t i o = record { answer = o .answer; after = withSlot t i (record { «is_open» = slotAt t i .«is_open»; key = slotAt t i .key; row = o .after }) }
 
 -- ---- offer: an unknown key expects 1 and takes the lowest free row
 
 abbrev pub opens : Table → Key → Outcome Row → Found → Outcome Table
-opens t k o (Found.At i) = record { answer = o .answer; after = withSlot t i (record { used = true; key = k; row = o .after }) }
+opens t k o (Found.At i) = record { answer = o .answer; after = withSlot t i (record { «is_open» = true; key = k; row = o .after }) }
 opens t k o Found.Nothing = refuse noFreeRow t
 
 abbrev pub offerBy : Table → Key → Held → ℕ → Lookup → Outcome Table
@@ -86,5 +86,5 @@ openRows t = if no (keepsTable t) then uncounted stateBroken else counted (openC
 unfoldable pub rowAt : Table → ℕ → Sight
 rowAt t i =
     if no (keepsTable t) then record { answer = refused stateBroken; key = noKey; row = noRow }
-    else if i <? 32 and slotAt t i .used then record { answer = accepted; key = slotAt t i .key; row = slotAt t i .row }
+    else if i <? 32 and slotAt t i .«is_open» then record { answer = accepted; key = slotAt t i .key; row = slotAt t i .row }
     else record { answer = refused noSuchStream; key = noKey; row = noRow }

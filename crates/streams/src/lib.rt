@@ -203,7 +203,7 @@ impl Table {
             return unseen(refusals::NO_SUCH_STREAM);
         }
         let x = self.slots[number];
-        if !x.used {
+        if !x.is_open {
             return unseen(refusals::NO_SUCH_STREAM);
         }
         let key = x.key;

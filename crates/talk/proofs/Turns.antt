@@ -29,18 +29,18 @@ use Rattle.talk.specs.declared.Stop.{Stop}
 use Rattle.talk.specs.declared.Due.{Due}
 use Rattle.talk.specs.Answer.{Telling}
 use Rattle.talk.specs.Sessions.{termsOf, keepsTerms, salted, listening, promised, receiving}
-use Rattle.talk.specs.Talk.{Turn, nothing, message, closing, goingOn, offered, heardAs, heard, completed, dataHeard, lineHeard, turnAt, turnIn, due, toldIn}
+use Rattle.talk.specs.Talk.{Turn, nothing, message, closing, goingOn, offered, heardAs, heard, completed, dataHeard, lineHeard, turnAt, turnIn, replyDue, toldIn}
 
 -- what is due is a turn, where it is known which
 pub turn-as : (s : List ℕ) (d e : Due) (u : Turn) → d ≡ e → u ≡ turnIn s e → turnIn s d ≡ u
 turn-as s d e u p q = ap (turnIn s) p ∙ sym q
 
 -- from its parts
-pub plain-is : (w : Reply) (e : Event) (m : Line) (s : Session) → m ≡ blankLine → _≡_ {A = Due} (record { reply = w; event = e; line = m; session = s }) (due w e s)
+pub plain-is : (w : Reply) (e : Event) (m : Line) (s : Session) → m ≡ blankLine → _≡_ {A = Due} (record { reply = w; event = e; line = m; session = s }) (replyDue w e s)
 plain-is w e m s p = λ i. record { reply = w; event = e; line = p i; session = s }
 
-pub next-is : (w : Reply) (e : Event) (x y : Session) (d : Due) → x ≡ y → d ≡ due w e x → d ≡ due w e y
-next-is w e x y d p q = q ∙ ap (due w e) p
+pub next-is : (w : Reply) (e : Event) (x y : Session) (d : Due) → x ≡ y → d ≡ replyDue w e x → d ≡ replyDue w e y
+next-is w e x y d p q = q ∙ ap (replyDue w e) p
 
 -- what was said, and what the reply buffer then holds, are the turn's
 pub said-by : (t u : Turn) (buffer after : List ℕ) (w : ℕ) → t ≡ u → (w ≡ wrote (t .reply) buffer) × (after ≡ placed (t .reply) 0 buffer)

@@ -11,7 +11,7 @@ use Rattle.line.specs.Reading.{Reading, blankLine, readOf}
 use Rattle.phrases.specs.declared.Kind.{Kind}
 use Rattle.phrases.specs.Lines.{kindOf, isData}
 use Rattle.replies.specs.declared.Reply.{Reply}
-use Rattle.replies.specs.Replies.{LF, 'error', tokenOf, sends, errs, acks, bads, bye, help, eh, replyText, wrote}
+use Rattle.replies.specs.Replies.{LF, 'error', errorToken, sends, errs, acks, bads, bye, help, eh, replyText, wrote}
 use Rattle.talk.specs.declared.Terms.{Terms}
 use Rattle.talk.specs.declared.Session.{Session}
 use Rattle.talk.specs.declared.Event.{Event}
@@ -58,7 +58,7 @@ completed t h =
 -- valid: `send ID`; invalid: close after `error T`, with the line's own reason
 abbrev pub offered : List ℕ → Reading → Line → Turn
 offered s Reading.Read m = record { reply = sends (m .fields .id); happening = offer m; next = promised (termsOf m) }
-offered s (Reading.Refused n) m = closing (errs (tokenOf s)) n
+offered s (Reading.Refused n) m = closing (errs (errorToken s)) n
 
 abbrev pub heardAs : Kind → List ℕ → Turn
 heardAs Kind.Ihave s = offered s (readOf s .reading) (readOf s .line)
@@ -97,8 +97,8 @@ turnAt Stop.Overlong s text = closing [] 1
 abbrev pub turnIn : List ℕ → Due → Turn
 turnIn s d = record { reply = replyText (d .reply) s; happening = record { what = what.happened (d .event); line = d .line }; next = d .session }
 
-abbrev pub due : Reply → Event → Session → Due
-due w e s = record { reply = w; event = e; line = blankLine; session = s }
+abbrev pub replyDue : Reply → Event → Session → Due
+replyDue w e s = record { reply = w; event = e; line = blankLine; session = s }
 
 -- what is due on a payload that is whole, whatever line was before it
 abbrev pub Completes : Due → Terms → Sha1 → Type 0

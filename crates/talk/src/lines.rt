@@ -16,11 +16,11 @@ ghost use Rattle.line.specs.Reading.{readOf};
 ghost use Rattle.replies.specs.declared.Reply.{Reply};
 ghost use Rattle.talk.specs.declared.Event.{Event};
 ghost use Rattle.talk.specs.Sessions.{termsOf, listening, promised, closed};
-ghost use Rattle.talk.specs.Talk.{Completes, offered, dataHeard, lineHeard, turnAt, due, turnIn};
+ghost use Rattle.talk.specs.Talk.{Completes, offered, dataHeard, lineHeard, turnAt, replyDue, turnIn};
 
 // A reply, what happened, and the session after it, with no line's fields.
 fn plain(reply: Reply, event: Event, session: Session) -> Due
-    ensures { λ r. ⌜ r ≡ due reply event session ⌝ }
+    ensures { λ r. ⌜ r ≡ replyDue reply event session ⌝ }
 {
     let line = states::no_line();
     Due {
@@ -33,7 +33,7 @@ fn plain(reply: Reply, event: Event, session: Session) -> Due
 
 // A reply, and the session is closed for a reason.
 fn ends(reply: Reply, reason: u8) -> Due
-    ensures { λ r. ⌜ r ≡ due reply (Event.End (record { reason = reason })) closed ⌝ }
+    ensures { λ r. ⌜ r ≡ replyDue reply (Event.End (record { reason = reason })) closed ⌝ }
 {
     let ending = Ending { reason };
     plain(reply, Event::End(ending), crate::closed())
@@ -41,7 +41,7 @@ fn ends(reply: Reply, reason: u8) -> Due
 
 // A reply, and the next line is waited for.
 fn goes_on(reply: Reply) -> Due
-    ensures { λ r. ⌜ r ≡ due reply Event.Nothing listening ⌝ }
+    ensures { λ r. ⌜ r ≡ replyDue reply Event.Nothing listening ⌝ }
 {
     plain(reply, Event::Nothing, crate::listening())
 }

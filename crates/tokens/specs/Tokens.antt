@@ -14,6 +14,10 @@ space = 0x20
 abbrev pub equals : ℕ
 equals = 0x3D
 
+-- the line's first word, `ihave`: i, h, a, v, e
+abbrev pub ihave : List ℕ
+ihave = 105 ∷ 104 ∷ 97 ∷ 118 ∷ 101 ∷ []
+
 pub record Token : Type 0 where
   pub key : List ℕ
   pub value : List ℕ

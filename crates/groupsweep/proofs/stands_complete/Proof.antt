@@ -14,13 +14,13 @@ returns-2 : tie.Need-returns-2
 returns-2 c =
     let at-if1 = c .before .before .before .if1 in
     let at-args = c .before .before .before .before .args in
-    sym (and-next _ _ (lt-ltb _ _ (at-if1 .left)) ∙ and-not-left _ _ (not-true (groupAt (at-args .t1) (at-args .number) .used) (c .if2 .taken)))
+    sym (and-next _ _ (lt-ltb _ _ (at-if1 .left)) ∙ and-not-left _ _ (not-true (groupAt (at-args .t1) (at-args .number) .«is_open») (c .if2 .taken)))
 
 returns-3 : tie.Need-returns-3
 returns-3 c =
     let at-if1 = c .before .before .before .before .if1 in
     let at-args = c .before .before .before .before .before .args in
-    c .is-complete .ensures ∙ sym (and-next _ _ (lt-ltb _ _ (at-if1 .left)) ∙ and-next _ _ (not-false (groupAt (at-args .t1) (at-args .number) .used) (c .before .if2 .left)))
+    c .is-complete .ensures ∙ sym (and-next _ _ (lt-ltb _ _ (at-if1 .left)) ∙ and-next _ _ (not-false (groupAt (at-args .t1) (at-args .number) .«is_open») (c .before .if2 .left)))
 
 pub stands-complete-spec : {M : Type 1} → statement M
 stands-complete-spec =

@@ -13,14 +13,14 @@ returns : tie.Need-returns
 unfolding sweptGroup
 returns c =
     let at-args = c .before .before .args in
-    sym (if-no _ _ _ (and-not-left _ _ (not-true (at-args .x .used) (c .if1 .taken))))
+    sym (if-no _ _ _ (and-not-left _ _ (not-true (at-args .x .«is_open») (c .if1 .taken))))
 
 returns-2 : tie.Need-returns-2
 unfolding sweptGroup
 returns-2 c =
     let at-args = c .before .before .before .before .args in
     let at-if1 = c .before .before .if1 in
-    sym (if-no _ _ _ (and-next _ _ (not-false (at-args .x .used) (at-if1 .left)) ∙ and-not-left _ _ (no-true _ (sym (c .before .is-complete .ensures) ∙ c .if2 .taken))))
+    sym (if-no _ _ _ (and-next _ _ (not-false (at-args .x .«is_open») (at-if1 .left)) ∙ and-not-left _ _ (no-true _ (sym (c .before .is-complete .ensures) ∙ c .if2 .taken))))
 
 returns-3 : tie.Need-returns-3
 unfolding sweptGroup
@@ -29,7 +29,7 @@ returns-3 c =
     let at-if1 = c .before .before .before .before .if1 in
     let at-is-complete = c .before .before .before .is-complete in
     let at-if2 = c .before .before .if2 in
-    sym (if-no _ _ _ (and-next _ _ (not-false (at-args .x .used) (at-if1 .left)) ∙ and-next _ _ (no-false _ (sym (at-is-complete .ensures) ∙ at-if2 .left)) ∙ lt-leb 604800 (at-args .time - at-args .x .began) (let z = c .before .age .ensures in omega arith)))
+    sym (if-no _ _ _ (and-next _ _ (not-false (at-args .x .«is_open») (at-if1 .left)) ∙ and-next _ _ (no-false _ (sym (at-is-complete .ensures) ∙ at-if2 .left)) ∙ lt-leb 604800 (at-args .time - at-args .x .began) (let z = c .before .age .ensures in omega arith)))
 
 returns-4 : tie.Need-returns-4
 unfolding sweptGroup
@@ -39,7 +39,7 @@ returns-4 c =
     let at-is-complete = c .before .before .before .before .is-complete in
     let at-if2 = c .before .before .before .if2 in
     let at-age = c .before .before .age in
-    c .free-group .ensures ∙ sym (if-yes _ _ _ (and-next _ _ (not-false (at-args .x .used) (at-if1 .left)) ∙ and-next _ _ (no-false _ (sym (at-is-complete .ensures) ∙ at-if2 .left)) ∙ le-leb 604800 (at-args .time - at-args .x .began) (let z = at-age .ensures in omega arith)))
+    c .free-group .ensures ∙ sym (if-yes _ _ _ (and-next _ _ (not-false (at-args .x .«is_open») (at-if1 .left)) ∙ and-next _ _ (no-false _ (sym (at-is-complete .ensures) ∙ at-if2 .left)) ∙ le-leb 604800 (at-args .time - at-args .x .began) (let z = at-age .ensures in omega arith)))
 
 pub swept-spec : {M : Type 1} → statement M
 swept-spec =

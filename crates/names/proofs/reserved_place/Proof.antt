@@ -4,19 +4,19 @@ use mathlib.Core.Path.{_≡_, sym, _∙_}
 use native.Mathlib.Omega.{arith}
 use borrow.Author.Needs.{needs}
 use lib.ListN.{drop}
-use Rattle.names.specs.Reserved.{reservedKeys, placeIn, placeOf}
+use Rattle.names.specs.Reserved.{reservedKeys, placeIn, keyPlace}
 use Rattle.names.proofs.Reserved.{table, word-fits, word-next, word-here, word-end}
 use Rattle.names.proofs.reserved_place.Statement.{statement}
 use Rattle.names.proofs.reserved_place.Tie as tie
 
 abbrev Inv-loop : tie.InvT-loop
-Inv-loop s table i₀ i = (i ≤ 13) × (placeOf s ≡ i + placeIn (drop i reservedKeys) s)
+Inv-loop s table i₀ i = (i ≤ 13) × (keyPlace s ≡ i + placeIn (drop i reservedKeys) s)
 
 abbrev μ-loop : tie.MeasureT-loop
 μ-loop s table i₀ i = 13 - i
 
 loop-holds : tie.Need-loop-holds Inv-loop μ-loop
-unfolding placeOf
+unfolding keyPlace
 loop-holds c = (search needs, omega arith)
 
 spells-requires : tie.Need-spells-requires Inv-loop μ-loop

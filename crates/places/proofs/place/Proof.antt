@@ -6,13 +6,13 @@ use borrow.Author.Needs.{needs}
 use borrow.Author.Tests.{lt-ltb, le-ltb}
 use lib.ListN.{length, take, drop}
 use Rattle.octets.specs.Words.{_and_}
-use Rattle.places.specs.Places.{placeOf}
+use Rattle.places.specs.Places.{placeFor}
 use Rattle.places.proofs.Packing.{cut, rest-at, rest-end}
 use Rattle.places.proofs.place.Statement.{statement}
 use Rattle.places.proofs.place.Tie as tie
 
 abbrev Inv-loop : tie.InvT-loop
-Inv-loop n number held count i₀ i = (length held ≡ 16) × (count ≤ 16) × (i ≤ count) × (placeOf number (take count held) ≡ i + placeOf number (drop i (take count held)))
+Inv-loop n number held count i₀ i = (length held ≡ 16) × (count ≤ 16) × (i ≤ count) × (placeFor number (take count held) ≡ i + placeFor number (drop i (take count held)))
 
 abbrev μ-loop : tie.MeasureT-loop
 μ-loop n number held count i₀ i = count - i
@@ -27,8 +27,8 @@ returns c =
     let at-at-most = c .before .before .before .at-most in
     let k = at-loop in
     let a = at-args in
-    let s : placeOf (a .number) (drop (k .i) (take (at-at-most .result) (a .t1))) ≡ 0 = ap (placeOf (a .number)) (rest-at (a .t1) (k .i) (at-at-most .result) (c .before .loop-test .taken) (omega arith)) ∙ simp (lt-ltb _ _ (c .if1 .taken)) in
-    let e = ap (placeOf (a .number)) (cut (a .t1) (a .n) (at-at-most .result) (k .inv .0) (at-at-most .ensures .0)) in
+    let s : placeFor (a .number) (drop (k .i) (take (at-at-most .result) (a .t1))) ≡ 0 = ap (placeFor (a .number)) (rest-at (a .t1) (k .i) (at-at-most .result) (c .before .loop-test .taken) (omega arith)) ∙ simp (lt-ltb _ _ (c .if1 .taken)) in
+    let e = ap (placeFor (a .number)) (cut (a .t1) (a .n) (at-at-most .result) (k .inv .0) (at-at-most .ensures .0)) in
     omega arith
 
 loop-again : tie.Need-loop-again Inv-loop μ-loop
@@ -38,7 +38,7 @@ loop-again c =
     let at-at-most = c .before .before .before .at-most in
     let k = at-loop in
     let a = at-args in
-    let s : placeOf (a .number) (drop (k .i) (take (at-at-most .result) (a .t1))) ≡ 1 + placeOf (a .number) (drop (k .i + 1) (take (at-at-most .result) (a .t1))) = ap (placeOf (a .number)) (rest-at (a .t1) (k .i) (at-at-most .result) (c .before .loop-test .taken) (omega arith)) ∙ simp (le-ltb _ _ (c .if1 .left)) in
+    let s : placeFor (a .number) (drop (k .i) (take (at-at-most .result) (a .t1))) ≡ 1 + placeFor (a .number) (drop (k .i + 1) (take (at-at-most .result) (a .t1))) = ap (placeFor (a .number)) (rest-at (a .t1) (k .i) (at-at-most .result) (c .before .loop-test .taken) (omega arith)) ∙ simp (le-ltb _ _ (c .if1 .left)) in
     (k .inv .0, k .inv .1, omega arith, omega arith)
 
 returns-2 : tie.Need-returns-2 Inv-loop μ-loop
@@ -47,8 +47,8 @@ returns-2 c =
     let at-at-most = c .before .before .at-most in
     let k = c .before .loop in
     let a = at-args in
-    let s : placeOf (a .number) (drop (k .i) (take (at-at-most .result) (a .t1))) ≡ 0 = ap (placeOf (a .number)) (rest-end (a .t1) (k .i) (at-at-most .result) (c .loop-test .left) (omega arith)) in
-    let e = ap (placeOf (a .number)) (cut (a .t1) (a .n) (at-at-most .result) (k .inv .0) (at-at-most .ensures .0)) in
+    let s : placeFor (a .number) (drop (k .i) (take (at-at-most .result) (a .t1))) ≡ 0 = ap (placeFor (a .number)) (rest-end (a .t1) (k .i) (at-at-most .result) (c .loop-test .left) (omega arith)) in
+    let e = ap (placeFor (a .number)) (cut (a .t1) (a .n) (at-at-most .result) (k .inv .0) (at-at-most .ensures .0)) in
     omega arith
 
 pub place-spec : {M : Type 1} → statement M

@@ -2,7 +2,7 @@
 use mathlib.Core.Path.{ap, _∙_}
 use borrow.Author.Needs.{needs}
 use Rattle.talk.specs.Sessions.{lineSoFar}
-use Rattle.talk.specs.Talk.{turnAt, turnIn, due}
+use Rattle.talk.specs.Talk.{turnAt, turnIn, replyDue}
 use Rattle.talk.proofs.Turns.{said-by}
 use Rattle.talk.proofs.hear.Statement.{statement}
 use Rattle.talk.proofs.hear.Tie as tie

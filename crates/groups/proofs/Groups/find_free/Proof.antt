@@ -24,13 +24,13 @@ returns : tie.Need-returns Inv-loop μ-loop
 returns c =
     let at-loop = c .before .before .before .before .loop in
     let at-args = c .before .before .before .before .before .args in
-    sym (at-loop .inv .1 ∙ first-here _ (at-loop .g) pastGroup (omega arith) isFree (no-false _ (not-true (getD (at-args .t1 .items) (at-loop .g) pastGroup .used) (c .if1 .taken))))
+    sym (at-loop .inv .1 ∙ first-here _ (at-loop .g) pastGroup (omega arith) isFree (no-false _ (not-true (getD (at-args .t1 .items) (at-loop .g) pastGroup .«is_open») (c .if1 .taken))))
 
 loop-again : tie.Need-loop-again Inv-loop μ-loop
 loop-again c =
     let at-loop = c .before .before .before .before .loop in
     let at-args = c .before .before .before .before .before .args in
-    (at-loop .inv .0, at-loop .inv .1 ∙ first-next _ (at-loop .g) pastGroup (omega arith) isFree (no-true _ (not-false (getD (at-args .t1 .items) (at-loop .g) pastGroup .used) (c .if1 .left))))
+    (at-loop .inv .0, at-loop .inv .1 ∙ first-next _ (at-loop .g) pastGroup (omega arith) isFree (no-true _ (not-false (getD (at-args .t1 .items) (at-loop .g) pastGroup .«is_open») (c .if1 .left))))
 
 returns-2 : tie.Need-returns-2 Inv-loop μ-loop
 returns-2 c =

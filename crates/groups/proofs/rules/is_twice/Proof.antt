@@ -9,13 +9,13 @@ use Rattle.groups.proofs.rules.is_twice.Tie as tie
 returns : tie.Need-returns
 returns c =
     let at-args = c .before .before .args in
-    sym (and-not-left _ _ (not-true (at-args .x .used) (c .if1 .taken)))
+    sym (and-not-left _ _ (not-true (at-args .x .«is_open») (c .if1 .taken)))
 
 returns-2 : tie.Need-returns-2
 returns-2 c =
     let at-args = c .before .before .before .before .args in
     let at-if1 = c .before .before .if1 in
-    c .has-from .ensures ∙ sym (and-next _ _ (not-false (at-args .x .used) (at-if1 .left)))
+    c .has-from .ensures ∙ sym (and-next _ _ (not-false (at-args .x .«is_open») (at-if1 .left)))
 
 pub is-twice-spec : {M : Type 1} → statement M
 is-twice-spec = tie.close (tie.spec returns (λ c. search needs) (λ c κs. search needs) returns-2)

@@ -11,14 +11,14 @@ returns : tie.Need-returns
 unfolding hasKey
 returns c =
     let at-args = c .before .before .args in
-    sym (and-not-left _ _ (not-true (at-args .self .used) (c .if1 .taken)))
+    sym (and-not-left _ _ (not-true (at-args .self .«is_open») (c .if1 .taken)))
 
 returns-2 : tie.Need-returns-2
 unfolding hasKey
 returns-2 c =
     let at-args = c .before .before .before .before .args in
     let at-if1 = c .before .before .if1 in
-    c .same .ensures ∙ sym (and-next _ _ (not-false (at-args .self .used) (at-if1 .left)))
+    c .same .ensures ∙ sym (and-next _ _ (not-false (at-args .self .«is_open») (at-if1 .left)))
 
 pub has-key-spec : {M : Type 1} → statement M
 has-key-spec = tie.close (tie.spec returns (λ c κs. search needs) returns-2)

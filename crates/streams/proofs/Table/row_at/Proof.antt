@@ -32,7 +32,7 @@ returns-3 c =
     let at-test = c .before .before .before .before .before .before .before .test in
     let at-if1 = c .before .before .before .before .before .if1 in
     let at-if2 = c .before .before .before .before .if2 in
-    c .unseen3 .ensures ∙ sym (if-no _ _ _ (no-true _ (sym (test-good (at-args .t1) _ _ (at-test .ensures)) ∙ not-false _ (at-if1 .left))) ∙ if-no _ _ _ (and-next _ _ (lt-ltb _ _ (at-if2 .left)) ∙ not-true (getD (at-args .t1 .slots) (at-args .number) pastSlot .used) (c .before .if3 .taken)))
+    c .unseen3 .ensures ∙ sym (if-no _ _ _ (no-true _ (sym (test-good (at-args .t1) _ _ (at-test .ensures)) ∙ not-false _ (at-if1 .left))) ∙ if-no _ _ _ (and-next _ _ (lt-ltb _ _ (at-if2 .left)) ∙ not-true (getD (at-args .t1 .slots) (at-args .number) pastSlot .«is_open») (c .before .if3 .taken)))
 
 returns-4 : tie.Need-returns-4
 unfolding rowAt
@@ -42,7 +42,7 @@ returns-4 c =
     let at-if1 = c .before .before .before .before .before .before .if1 in
     let at-if2 = c .before .before .before .before .before .if2 in
     let at-if3 = c .before .before .if3 in
-    sym (if-no _ _ _ (no-true _ (sym (test-good (at-args .t1) _ _ (at-test .ensures)) ∙ not-false _ (at-if1 .left))) ∙ if-yes _ _ _ (and-both _ _ (lt-ltb _ _ (at-if2 .left)) (not-false (getD (at-args .t1 .slots) (at-args .number) pastSlot .used) (at-if3 .left))))
+    sym (if-no _ _ _ (no-true _ (sym (test-good (at-args .t1) _ _ (at-test .ensures)) ∙ not-false _ (at-if1 .left))) ∙ if-yes _ _ _ (and-both _ _ (lt-ltb _ _ (at-if2 .left)) (not-false (getD (at-args .t1 .slots) (at-args .number) pastSlot .«is_open») (at-if3 .left))))
 
 pub row-at-spec : {M : Type 1} → statement M
 row-at-spec =
