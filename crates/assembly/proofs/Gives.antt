@@ -12,10 +12,10 @@ use Rattle.groupkeys.specs.declared.Key.{Key}
 use Rattle.groupkeys.specs.declared.Named.{Named}
 use Rattle.groups.specs.declared.Groups.{Groups}
 use Rattle.groups.specs.declared.Found.{Found}
-use Rattle.groups.specs.Groups.{storeSize, hasKey, complete, joinedLength, keepsGroups, first, pastGroup, groupAt}
+use Rattle.groups.specs.Groups.{storeSize, freeGroup, hasKey, complete, joinedLength, keepsGroups, first, pastGroup, groupAt, withGroup}
 use Rattle.groups.proofs.Search.{first-bound}
-use Rattle.groupcalls.specs.Answer.{Outcome}
-use Rattle.groupcalls.specs.Calls.{gate, collectAt, collectBy}
+use Rattle.groupcalls.specs.Answer.{Outcome, collected}
+use Rattle.groupcalls.specs.Calls.{unless, gate, collectAt, collectBy}
 use Rattle.groupcalls.proofs.Tests.{kept, pieces-kept, group-kept, collect-passed}
 use Rattle.groupcalls.proofs.Moves.{first-at, first-none}
 use Rattle.fragments.proofs.Joins.{length-rest}
@@ -29,7 +29,9 @@ unfolding gate
 gate-open t size n k s r = if-no _ _ _ (no-true _ k) ∙ if-no _ _ _ (no-true _ (eq-eqb size storeSize s)) ∙ if-no _ _ _ (le-ltb 0 (n .refusal) (omega arith))
 
 taken-at : (t : Groups) (g room : ℕ) → complete (groupAt t g) ≡ true → joinedLength (groupAt t g) ≤ room → accepted (collectAt t g room .answer) ≡ true
-taken-at t g room c h = ap (λ (o : Outcome). accepted (o .answer)) (if-no _ _ _ (no-true _ c) ∙ if-no _ _ _ (le-ltb room (joinedLength (groupAt t g)) h))
+taken-at t g room c h =
+    let taken : Outcome = record { answer = collected g (joinedLength (groupAt t g)); after = withGroup t g freeGroup } in
+    ap (λ (n : ℕ). accepted (unless n t taken .answer)) (if-no _ _ _ (no-true _ c) ∙ if-no _ _ _ (le-ltb room (joinedLength (groupAt t g)) h))
 
 pub chain-gives : {h : History} {w : House} → Reached h w → (a : Names) (out : List ℕ) → length (w .store) ≡ storeSize → named a .refusal ≡ 0 → 0 < length (since (keyFor a) h)
     → whole (since (keyFor a) h) ≡ true → length (inOrder (since (keyFor a) h)) ≤ length out → accepted (outcome w (collecting a out) .answer) ≡ true

@@ -17,7 +17,7 @@ use Rattle.groups.specs.Groups.{storeSize, noPiece, freeGroup, isFree, hasKey, 
 use Rattle.groups.proofs.Search.{found-nothing, first-bound}
 use Rattle.groupcalls.specs.declared.Fragment.{Fragment}
 use Rattle.groupcalls.specs.Answer.{added, collected, Outcome, refuse}
-use Rattle.groupcalls.specs.Calls.{gate, inRange, addTo, newGroup, addIn, addBy, add, collectBy, collect}
+use Rattle.groupcalls.specs.Calls.{unless, gate, inRange, addTo, newGroup, addIn, addBy, add, collectBy, collect}
 use Rattle.groupcalls.proofs.Tests.{Ranged, ranged, Kept, kept, pieces-kept, group-kept, Passed, passed}
 
 -- ---- what a search found
@@ -70,7 +70,7 @@ add-moves t size named f = go (0 <? gate t size named (inRange f)) refl
     into k n Found.Nothing q = refusing 20
 
     at : Passed t size named (inRange f) → (g : ℕ) → Found.At g ≡ first (hasKey (named .key)) 0 (t .items) → (a b : Bool) → (groupAt t g .total =? f .total) ≡ a
-        → getD (groupAt t g .pieces) (f .number - 1) noPiece .held ≡ b → Move t size named f (if no a then refuse otherTotal t else if b then refuse fragmentHeld t else addTo t g (groupAt t g) f)
+        → getD (groupAt t g .pieces) (f .number - 1) noPiece .held ≡ b → Move t size named f (unless (if no a then otherTotal else if b then fragmentHeld else 0) t (addTo t g (groupAt t g) f))
     at k g q false b x y = refusing 18
     at k g q true true x y = refusing 19
     at k g q true false x y =
@@ -105,7 +105,7 @@ unfolding collect
 collect-takes t size named room = go (0 <? gate t size named true) refl
   where
     at : Passed t size named true → (g : ℕ) → Found.At g ≡ first (hasKey (named .key)) 0 (t .items) → (a b : Bool) → complete (groupAt t g) ≡ a → (room <? joinedLength (groupAt t g)) ≡ b
-        → Taking t size named room (if no a then refuse notComplete t else if b then refuse bufferTooShort t else record { answer = collected g (joinedLength (groupAt t g)); after = withGroup t g freeGroup })
+        → Taking t size named room (unless (if no a then notComplete else if b then bufferTooShort else 0) t (record { answer = collected g (joinedLength (groupAt t g)); after = withGroup t g freeGroup }))
     at k g q false b x y = refusing 21
     at k g q true true x y = refusing 5
     at k g q true false x y =

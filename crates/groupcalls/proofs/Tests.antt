@@ -14,10 +14,11 @@ use Rattle.groupkeys.specs.declared.Named.{Named}
 use Rattle.groups.specs.declared.Group.{Group}
 use Rattle.groups.specs.declared.Groups.{Groups}
 use Rattle.groups.specs.declared.Found.{Found}
-use Rattle.groups.specs.Groups.{place, storeSize, freeGroup, isFree, hasKey, joinedLength, keepsPieces, keepsGroup, keepsGroups, distinct, first, pastGroup, groupAt, withGroup}
+use Rattle.groups.specs.Groups.{place, storeSize, freeGroup, isFree, hasKey, complete, joinedLength, keepsPieces, keepsGroup, keepsGroups, distinct, first, pastGroup, groupAt, withGroup}
+use Rattle.fragment_refusals.specs.Order.{fragmentRanged, refusesCollecting}
 use Rattle.groupcalls.specs.declared.Fragment.{Fragment}
 use Rattle.groupcalls.specs.Answer.{collected, Outcome, refuse}
-use Rattle.groupcalls.specs.Calls.{gate, inRange, addTo, addIn, addNew, addBy, add, collectBy, collect}
+use Rattle.groupcalls.specs.Calls.{unless, gate, inRange, addTo, addIn, addNew, addBy, add, collectBy, collect}
 
 -- ---- a fragment in its ranges
 
@@ -29,7 +30,7 @@ pub record Ranged (f : Fragment) : Type 0 where
   pub size : f .len ≤ place
 
 pub ranged : (f : Fragment) → inRange f ≡ true → Ranged f
-unfolding inRange
+unfolding fragmentRanged
 ranged f e =
     let a = and-left (between 2 16 (f .total)) _ e in
     let r = and-right (between 2 16 (f .total)) _ e in
@@ -136,7 +137,21 @@ module _ (t : Groups) (size : ℕ) (named : Named) (room n : ℕ) (e : n ≡ gat
 pub collect-named : (t : Groups) (size : ℕ) (m n : Named) (room : ℕ) → m ≡ n → collect t size m room ≡ collect t size n room
 collect-named t size m n room e = ap (λ (x : Named). collect t size x room) e
 
+-- ---- a call that is refused with a number, or not at all
+
+module _ (n m : ℕ) (t : Groups) (o : Outcome) (e : n ≡ m) where
+  pub is-refused : 0 < n → refuse n t ≡ unless m t o
+  is-refused h = ap (λ (k : ℕ). refuse k t) e ∙ sym (if-yes _ _ _ (lt-ltb 0 m (omega arith)))
+
+  pub is-made : n ≤ 0 → o ≡ unless m t o
+  is-made h = sym (if-no _ _ _ (le-ltb 0 m (omega arith)))
+
+-- the tests of a collect, from what the code found
+pub collecting : (x : Group) (b : Bool) (n room : ℕ) → b ≡ complete x → n ≡ joinedLength x
+    → refusesCollecting (no b) (room <? n) ≡ refusesCollecting (no (complete x)) (room <? joinedLength x)
+collecting x b n room p q = ap (λ (c : Bool). refusesCollecting (no c) (room <? n)) p ∙ ap (λ (j : ℕ). refusesCollecting (no (complete x)) (room <? j)) q
+
 -- the group of an accepted collect is freed
-pub freed-at : (t : Groups) (g n : ℕ) (u : Groups) (x : Group) → n ≡ joinedLength (groupAt t g) → u ≡ withGroup t g x → x ≡ freeGroup
-    → _≡_ {A = Outcome} (record { answer = collected g n; after = u }) (record { answer = collected g (joinedLength (groupAt t g)); after = withGroup t g freeGroup })
-freed-at t g n u x e p q = let z = p ∙ ap (withGroup t g) q in λ i. record { answer = collected g (e i); after = z i }
+pub freed-at : (t : Groups) (g n : ℕ) (x : Group) → n ≡ joinedLength (groupAt t g) → x ≡ freeGroup
+    → _≡_ {A = Outcome} (record { answer = collected g n; after = withGroup t g x }) (record { answer = collected g (joinedLength (groupAt t g)); after = withGroup t g freeGroup })
+freed-at t g n x e q = let z = ap (withGroup t g) q in λ i. record { answer = collected g (e i); after = z i }

@@ -2,34 +2,32 @@
 use Prim.Native.Nat.{ℕ, _-_}
 use mathlib.Core.Bool.{Bool, true}
 use lib.ListN.{getD, set, replicate}
-use Rattle.octets.specs.Words.{if_then_else_, _and_, no, between, _<?_, _≤?_, _=?_}
-use Rattle.refusals.specs.Numbers.{stateBroken, storeLength, fragmentMalformed, otherTotal, fragmentHeld, noFreeGroup, notComplete, bufferTooShort}
+use Rattle.octets.specs.Words.{if_then_else_, no, _<?_, _=?_}
+use Rattle.refusals.specs.Numbers.{stateBroken, noFreeGroup, notComplete}
+use Rattle.fragment_refusals.specs.Order.{fragmentRanged, refusesKey, refusesJoining, refusesCollecting}
 use Rattle.groupkeys.specs.declared.Key.{Key}
 use Rattle.groupkeys.specs.declared.Named.{Named}
 use Rattle.groups.specs.declared.Group.{Group}
 use Rattle.groups.specs.declared.Groups.{Groups}
 use Rattle.groups.specs.declared.Found.{Found}
-use Rattle.groups.specs.Groups.{place, storeSize, noPiece, freeGroup, isFree, hasKey, complete, joinedLength, keepsGroups, first, groupAt, withGroup}
+use Rattle.groups.specs.Groups.{storeSize, noPiece, freeGroup, isFree, hasKey, complete, joinedLength, keepsGroups, first, groupAt, withGroup}
 use Rattle.groupsweep.specs.Sweep.{sweptAll, standsComplete}
 unfoldable pub use Rattle.groupsweep.specs.Sweep.{sweptGroup}
 use Rattle.groupcalls.specs.declared.Fragment.{Fragment}
 use Rattle.groupcalls.specs.Answer.{added, swept, collected, Outcome, refuse, Stand, isComplete, isIncomplete, unseen}
 
--- the tests that add and collect make first: 40, then 23, then 8 and 17 for the key (which `namedOf` gives), then 17 for N, M and the length;
--- 0 where all are passed
+-- refused with the number n, or not at all where it is 0
+abbrev pub unless : ℕ → Groups → Outcome → Outcome
+unless n t o = if 0 <? n then refuse n t else o
+
+-- the tests that add and collect make first: 40, then 23, then 8 and 17 for the key (which `namedOf` gives), then 17 for N, M and the length
 unfoldable pub gate : Groups → ℕ → Named → Bool → ℕ
-gate t size named ranged =
-    if no (keepsGroups t) then stateBroken
-    else if no (size =? storeSize) then storeLength
-    else if 0 <? named .refusal then named .refusal
-    else if no ranged then fragmentMalformed
-    else 0
+gate t size named ranged = refusesKey (no (keepsGroups t)) (no (size =? storeSize)) (named .refusal) (no ranged)
 
 -- ---- add
 
--- M 2 to 16, N 1 to M, a fragment of 0 to 1,024 bytes
-unfoldable pub inRange : Fragment → Bool
-inRange f = between 2 16 (f .total) and between 1 (f .total) (f .number) and f .len ≤? place
+abbrev pub inRange : Fragment → Bool
+inRange f = fragmentRanged (f .number) (f .total) (f .len)
 
 -- the group x with the fragment held
 abbrev pub withFragment : Group → Fragment → Group
@@ -41,10 +39,7 @@ addTo t g x f = record { answer = added g; after = withGroup t g (withFragment x
 
 -- to the group that has the key: M differs (18), or the fragment is held already (19)
 abbrev pub addAt : Groups → ℕ → Fragment → Outcome
-addAt t g f =
-    if no (groupAt t g .total =? f .total) then refuse otherTotal t
-    else if getD (groupAt t g .pieces) (f .number - 1) noPiece .held then refuse fragmentHeld t
-    else addTo t g (groupAt t g) f
+addAt t g f = unless (refusesJoining (no (groupAt t g .total =? f .total)) (getD (groupAt t g .pieces) (f .number - 1) noPiece .held)) t (addTo t g (groupAt t g) f)
 
 -- a group that opens with this fragment: no fragment is held yet
 abbrev pub newGroup : Key → Fragment → Group
@@ -63,18 +58,15 @@ addBy t k f (Found.At g) = addAt t g f
 addBy t k f Found.Nothing = addNew t k f
 
 unfoldable pub add : Groups → ℕ → Named → Fragment → Outcome
-add t size named f =
-    if 0 <? gate t size named (inRange f) then refuse (gate t size named (inRange f)) t
-    else addBy t (named .key) f (first (hasKey (named .key)) 0 (t .items))
+add t size named f = unless (gate t size named (inRange f)) t (addBy t (named .key) f (first (hasKey (named .key)) 0 (t .items)))
 
 -- ---- collect
 
 -- the group that has the key: incomplete is 21, a buffer too short for all that it holds 5; else it is freed
 abbrev pub collectAt : Groups → ℕ → ℕ → Outcome
 collectAt t g room =
-    if no (complete (groupAt t g)) then refuse notComplete t
-    else if room <? joinedLength (groupAt t g) then refuse bufferTooShort t
-    else record { answer = collected g (joinedLength (groupAt t g)); after = withGroup t g freeGroup }
+    unless (refusesCollecting (no (complete (groupAt t g))) (room <? joinedLength (groupAt t g))) t
+    (record { answer = collected g (joinedLength (groupAt t g)); after = withGroup t g freeGroup })
 
 -- an unknown key is 21
 abbrev pub collectBy : Groups → ℕ → Found → Outcome
@@ -82,9 +74,7 @@ collectBy t room (Found.At g) = collectAt t g room
 collectBy t room Found.Nothing = refuse notComplete t
 
 unfoldable pub collect : Groups → ℕ → Named → ℕ → Outcome
-collect t size named room =
-    if 0 <? gate t size named true then refuse (gate t size named true) t
-    else collectBy t room (first (hasKey (named .key)) 0 (t .items))
+collect t size named room = unless (gate t size named true) t (collectBy t room (first (hasKey (named .key)) 0 (t .items)))
 
 -- ---- sweep
 

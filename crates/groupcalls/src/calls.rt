@@ -2,7 +2,6 @@
 ghost use mathlib.Core.Path.{_≡_};
 ghost use mathlib.Core.Bool.{true};
 ghost use Prim.Native.Nat.{_<_};
-ghost use Rattle.groups.specs.Groups.{withGroup};
 ghost use Rattle.groupcalls.specs.Answer.{says, refuse};
 ghost use Rattle.groupcalls.specs.Calls.{gate, inRange, addTo, addAt, addNew, collectAt};
 use crate::Answer;
@@ -19,39 +18,8 @@ use groups::Piece;
 pub(crate) fn gate(t: Groups, size: usize, named: Named, ranged: bool) -> u8
     ensures { λ r. ⌜ r ≡ gate t size named ranged ⌝ }
 {
-    let n = named.refusal;
-    if !t.keep_rules() {
-        return refusals::STATE_BROKEN;
-    }
-    if size != groups::STORE {
-        return refusals::STORE_LENGTH;
-    }
-    if n > 0 {
-        return n;
-    }
-    if !ranged {
-        return refusals::FRAGMENT_MALFORMED;
-    }
-    0
-}
-
-// Whether N, M and the length are in their ranges.
-pub(crate) fn in_range(f: Fragment) -> bool
-    ensures { λ r. ⌜ r ≡ inRange f ⌝ }
-{
-    if f.total < 2 {
-        return false;
-    }
-    if f.total > 16 {
-        return false;
-    }
-    if f.number < 1 {
-        return false;
-    }
-    if f.number > f.total {
-        return false;
-    }
-    f.len <= groups::PLACE
+    let good = t.keep_rules();
+    fragment_refusals::refuses_key(!good, size != groups::STORE, named.refusal, !ranged)
 }
 
 pub(crate) fn refused(n: u8, t: Groups) -> Served
@@ -63,17 +31,8 @@ pub(crate) fn refused(n: u8, t: Groups) -> Served
     }
 }
 
-fn put(t: Groups, g: usize, x: Group) -> Groups
-    requires { ⌜ g < 4 ⌝ }
-    ensures { λ r. ⌜ r ≡ withGroup t g x ⌝ }
-{
-    let mut u = t;
-    u.items[g] = x;
-    u
-}
-
 // Group g of the groups is x with one fragment more.
-fn add_to(t: Groups, g: usize, x: Group, f: Fragment) -> Served
+fn add_to(mut t: Groups, g: usize, x: Group, f: Fragment) -> Served
     requires { ⌜ (g < 4) × (inRange f ≡ true) ⌝ }
     ensures { λ r. ⌜ says r ≡ addTo t g x f ⌝ }
 {
@@ -84,10 +43,10 @@ fn add_to(t: Groups, g: usize, x: Group, f: Fragment) -> Served
     let n = f.number - 1;
     let mut y = x;
     y.pieces[n] = p;
-    let u = put(t, g, y);
+    t.items[g] = y;
     Served {
         answer: Answer::Added(g),
-        groups: u,
+        groups: t,
     }
 }
 
@@ -99,14 +58,9 @@ pub(crate) fn add_at(t: Groups, g: usize, f: Fragment) -> Served
     let x = t.items[g];
     let at = f.number - 1;
     let p = x.pieces[at];
-    let held = p.held;
-    let total = x.total;
-    let announced = f.total;
-    if total != announced {
-        return refused(refusals::OTHER_TOTAL, t);
-    }
-    if held {
-        return refused(refusals::FRAGMENT_HELD, t);
+    let n = fragment_refusals::refuses_joining(x.total != f.total, p.held);
+    if n > 0 {
+        return refused(n, t);
     }
     add_to(t, g, x, f)
 }
@@ -129,23 +83,20 @@ pub(crate) fn add_new(t: Groups, key: Key, f: Fragment) -> Served
 }
 
 // The group of the key is there: 21, then 5, then it is freed.
-pub(crate) fn collect_at(t: Groups, g: usize, room: usize) -> Served
+pub(crate) fn collect_at(mut t: Groups, g: usize, room: usize) -> Served
     requires { ⌜ g < 4 ⌝ }
     ensures { λ r. ⌜ says r ≡ collectAt t g room ⌝ }
 {
     let x = t.items[g];
-    let whole = groups::is_complete(x);
-    let n = groups::joined_length(x);
-    if !whole {
-        return refused(refusals::NOT_COMPLETE, t);
+    let len = groups::joined_length(x);
+    let complete = groups::is_complete(x);
+    let n = fragment_refusals::refuses_collecting(!complete, room < len);
+    if n > 0 {
+        return refused(n, t);
     }
-    if room < n {
-        return refused(refusals::BUFFER_TOO_SHORT, t);
-    }
-    let free = groups::free_group();
-    let after = put(t, g, free);
+    t.items[g] = groups::free_group();
     Served {
-        answer: Answer::Collected(g, n),
-        groups: after,
+        answer: Answer::Collected(g, len),
+        groups: t,
     }
 }

@@ -50,7 +50,7 @@ pub fn add(
     ensures { λ r. ⌜ says r ≡ add groups size (namedOf «has_originator» (now (originator .entry)) master) f ⌝ }
 {
     let named = groupkeys::name(has_originator, originator, master);
-    let ranged = calls::in_range(f);
+    let ranged = fragment_refusals::in_range(f.number, f.total, f.len);
     let n = calls::gate(groups, size, named, ranged);
     if n > 0 {
         return calls::refused(n, groups);

@@ -1,9 +1,7 @@
 -- The fragment is held in the group, and the group stands in its place.
-use mathlib.Core.Path.{ap}
 use native.Mathlib.Omega.{arith}
 use borrow.Author.Needs.{needs}
 use Rattle.octets.specs.Words.{_and_}
-use Rattle.groupcalls.specs.Answer.{Said, Outcome}
 use Rattle.groupcalls.proofs.Tests.{ranged}
 use Rattle.groupcalls.proofs.calls.add_to.Statement.{statement}
 use Rattle.groupcalls.proofs.calls.add_to.Tie as tie
@@ -29,10 +27,6 @@ element-set-from-p c =
     let at-pre = c .before .before .pre in
     let k = ranged (at-args .f) (at-pre .1) in search needs
 
-returns : tie.Need-returns
-returns c =
-    let at-args = c .before .before .before .args in
-    ap {B = Outcome} (λ u. record { answer = Said.added (at-args .g); after = u }) (c .put .ensures)
-
 pub add-to-spec : {M : Type 1} → statement M
-add-to-spec = tie.close (tie.spec cast-t9 sub-n mul-p element-set-from-p (λ c κs. search needs) returns)
+add-to-spec =
+    tie.close (tie.spec cast-t9 sub-n mul-p element-set-from-p (λ c. search needs) (λ c. search needs) (λ c. search needs))

@@ -1,0 +1,2 @@
+-- What every public contract must show.
+pub mod Unique
