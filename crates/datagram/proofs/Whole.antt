@@ -12,9 +12,25 @@ use Rattle.octets.proofs.FieldLaws.{num-laws}
 use Rattle.octets.proofs.Tests.{if-yes, if-no, true-not-false}
 use Rattle.layout.specs.declared.Datagram.{Datagram}
 use Rattle.layout.specs.Layout.{message}
-use Rattle.datagram.specs.Answer.{accepted, refused, afterLength, afterFields, readOf}
+use Rattle.datagram.specs.Answer.{Said, verdict, accepted, refused, afterLength, afterFields, readOf}
+use Rattle.datagram.specs.Groups.{isRead}
+use Rattle.datagram.specs.declared.DatagramReading.{DatagramReading}
 use Rattle.datagram_numbers.specs.Found.{found, finding}
 use Rattle.datagram_numbers.proofs.Chains.{tail, rest, tail-length}
+
+-- ---- whether the fields are there
+
+pub is-read : (r : DatagramReading) → r ≡ DatagramReading.Read → isRead r ≡ true
+is-read r e = ap isRead e
+
+pub not-read : (r : DatagramReading) (number : ℕ) → r ≡ DatagramReading.Refused number → isRead r ≡ false
+not-read r number e = ap isRead e
+
+pub read-said : (r : DatagramReading) (m : Datagram) (at n : ℕ) → r ≡ DatagramReading.Read
+    → _≡_ {A = Said} (record { reading = verdict r; message = m; payloadAt = at; payloadLen = n }) (accepted m at n)
+read-said r m at n e = ap (λ (q : DatagramReading). record { reading = verdict q; message = m; payloadAt = at; payloadLen = n }) e
+
+-- ---- the order of the refusals
 
 pub empty : (d : List ℕ) → length d < 1 → refused 6 ≡ readOf d
 unfolding readOf

@@ -1,2 +1,3 @@
 -- Document 01, "The datagram": what the reader answers.
 pub mod Answer
+pub mod Groups

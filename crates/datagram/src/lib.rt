@@ -4,6 +4,8 @@ use octets::Read32;
 ghost use mathlib.Core.Path.{_≡_};
 ghost use Rattle.datagram.specs.Answer.{says, readOf, partOf, refused};
 
+mod fields;
+
 // Read, or refused with the number of the paper's table.
 pub enum DatagramReading {
     Read,
@@ -41,11 +43,12 @@ pub fn read_datagram(d: &[u8]) -> DatagramAnswer
         return refuse(refusals::NOT_VERSION_7);
     }
     let d1 = &d[1..];
-    let m = datagram_fields::read_message(d1);
-    if !m.ok {
+    let mut a = fields::read_message(d1);
+    let reading = a.reading;
+    let DatagramReading::Read = reading else {
         return refuse(refusals::DATAGRAM_MALFORMED);
-    }
-    let n = m.used;
+    };
+    let n = a.payload_at;
     let d2 = &d1[n..];
     let l = octets::read_u32(d2);
     let Read32::Got(v, k) = l else {
@@ -58,13 +61,9 @@ pub fn read_datagram(d: &[u8]) -> DatagramAnswer
     if d2.len() - k != len {
         return refuse(refusals::DATAGRAM_MALFORMED);
     }
-    let message = m.message;
-    DatagramAnswer {
-        reading: DatagramReading::Read,
-        message,
-        payload_at: 1 + n + k,
-        payload_len: len,
-    }
+    a.payload_at = 1 + n + k;
+    a.payload_len = len;
+    a
 }
 
 // The part of the lent datagram that the payload occupies; none where it does not lie in the datagram.

@@ -9,12 +9,7 @@ use lib.ListN.{length, drop}
 use lib.Seq.{drop-drop}
 use Rattle.octets.specs.Field.{Res, bad, got, bind, Field, manyParse}
 use Rattle.datagram_numbers.proofs.Chains.{tail, rest}
-use Rattle.datagram_lists.specs.Found.{folded, listFrom}
-use Rattle.datagram_lists.proofs.Behind.{further}
-
-further-0 : {S : Type 0} (x : Res S) → further 0 x ≡ x
-further-0 bad = refl
-further-0 (got b m) = let z : 0 + m ≡ m = omega arith in rw z
+use Rattle.datagram_lists.specs.Found.{folded, listFrom, further}
 
 further-both : {S : Type 0} (n m : ℕ) (x : Res S) → further n (further m x) ≡ further (n + m) x
 further-both n m bad = refl
@@ -26,8 +21,8 @@ module _ {A S : Type 0} (F : Field A) (add : S → A → S) where
   one-more k n start a bad = refl
   one-more k n start a (got l j) = refl
 
-  pub loop-start : (k : ℕ) (start now : S) (s : List ℕ) → now ≡ start → listFrom F add k start s ≡ further 0 (listFrom F add (k - 0) now (drop 0 s))
-  loop-start k start now s e = rw (e, sub-zero) (sym (further-0 (listFrom F add k start s)))
+  pub loop-start : (k n : ℕ) (start now : S) (s : List ℕ) → now ≡ start → further n (listFrom F add k start (drop n s)) ≡ further n (listFrom F add (k - 0) now (drop n s))
+  loop-start k n start now s e = rw (e, sub-zero)
 
   pub loop-next : (k i at n : ℕ) (now next : S) (a : A) (s : List ℕ) (x : Res S) → i < k → x ≡ further at (listFrom F add (k - i) now (drop at s))
       → F .parse (tail at s) ≡ got a n → next ≡ add now a → x ≡ further (at + n) (listFrom F add (k - (i + 1)) next (drop (at + n) s))

@@ -63,14 +63,5 @@ pub fn read_headers(d: &[u8], has: bool) -> HeadersFound
     if 8 < v {
         return headings::no_headers(false);
     }
-    let r = headings::read_items(&d[n..], v as usize);
-    if !r.ok {
-        return headings::no_headers(false);
-    }
-    let headers = r.headers;
-    HeadersFound {
-        ok: true,
-        used: n + r.used,
-        headers,
-    }
+    headings::read_items(d, n, v as usize)
 }

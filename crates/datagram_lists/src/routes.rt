@@ -6,97 +6,76 @@ use layout::Flags;
 use layout::Hops;
 use octets::Read8;
 ghost use mathlib.Core.Path.{_≡_};
-ghost use Prim.Native.Nat.{_+_, _≤_, _<_};
-ghost use Rattle.layout.specs.Layout.{call, hopsIf, way};
+ghost use Prim.Native.Nat.{_+_, _≤_};
+ghost use mathlib.Core.List.{[]};
+ghost use lib.ListN.{length, replicate};
+ghost use Rattle.envelope.specs.Texts.{callText};
+ghost use Rattle.layout.specs.Layout.{hopsIf, way};
 ghost use Rattle.datagram_numbers.specs.Found.{finding};
-ghost use Rattle.datagram_lists.specs.Found.{listFrom, withHop};
+ghost use Rattle.datagram_lists.specs.Found.{hopsFrom};
 
 struct HopsFound {
     ok: bool,
     used: usize,
-    hops: Hops,
+    count: usize,
+    items: [CallText; 16],
 }
 
-// One hop more behind the others.
-fn with_hop(h: Hops, x: CallText) -> Hops
-    requires { ⌜ h .count < 16 ⌝ }
-    ensures { λ r. ⌜ r ≡ withHop h x ⌝ }
+// No hops behind the first `count` places.
+fn blank(ok: bool, count: usize) -> HopsFound
+    ensures { λ r. ⌜ r ≡ record { ok = ok; used = 0; count = count; items = replicate 16 (callText []) } ⌝ }
 {
-    let n = h.count;
-    let mut items = h.items;
-    items[n] = x;
-    Hops {
-        count: n + 1,
-        items,
+    let none = CallText {
+        len: 0,
+        bytes: [0u8; 12],
+    };
+    HopsFound {
+        ok,
+        used: 0,
+        count,
+        items: [none; 16],
     }
 }
 
-// k hops, behind those that were read before.
-fn read_hops(d: &[u8], k: usize, before: Hops) -> HopsFound
-    requires { ⌜ before .count + k ≤ 16 ⌝ }
-    ensures { λ r. ⌜ finding (listFrom (call 1) withHop k before (now (d .entry))) (now (d .entry)) (r .ok) (r .hops) (r .used) ⌝ }
+// k hops, of which the first has the place `at`: one hop, and the shorter list behind it. It stands in the array that the shorter list came in,
+// so that no array is handed on.
+fn read_hops(d: &[u8], k: usize, at: usize) -> HopsFound
+    requires { ⌜ at + k ≤ 16 ⌝ }
+    ensures { λ r. ⌜ (finding (hopsFrom k at (now (d .entry))) (now (d .entry)) (r .ok) (record { count = r .count; items = r .items }) (r .used)) × (length (r .items) ≡ 16) ⌝ }
 {
     if k == 0 {
-        return HopsFound {
-            ok: true,
-            used: 0,
-            hops: before,
-        };
+        return blank(true, at);
     }
     let h = datagram_texts::read_hop(d);
-    if !h.ok {
-        return HopsFound {
-            ok: false,
-            used: 0,
-            hops: before,
-        };
-    }
     let n = h.used;
     let hop = h.hop;
-    let more = with_hop(before, hop);
-    let r = read_hops(&d[n..], k - 1, more);
-    let hops = r.hops;
-    HopsFound {
-        ok: r.ok,
-        used: n + r.used,
-        hops,
-    }
+    let mut r = read_hops(&d[n..], k - 1, at + 1);
+    let used = n + r.used;
+    let ok = datagram_numbers::both(h.ok, r.ok);
+    r.items[at] = hop;
+    r.used = used;
+    r.ok = ok;
+    r
 }
 
 // The source route or the traversed hops, where the flag is set: 0 to 16 hops.
 fn read_route(d: &[u8], has: bool) -> HopsFound
-    ensures { λ r. ⌜ finding (hopsIf has .parse (now (d .entry))) (now (d .entry)) (r .ok) (r .hops) (r .used) ⌝ }
+    ensures { λ r. ⌜ finding (hopsIf has .parse (now (d .entry))) (now (d .entry)) (r .ok) (record { count = r .count; items = r .items }) (r .used) ⌝ }
 {
-    let none = layout::no_hops();
     if !has {
-        return HopsFound {
-            ok: true,
-            used: 0,
-            hops: none,
-        };
+        return blank(true, 0);
     }
     let c = octets::read_u8(d);
     let Read8::Got(v, n) = c else {
-        return HopsFound {
-            ok: false,
-            used: 0,
-            hops: none,
-        };
+        return blank(false, 0);
     };
     if 16 < v {
-        return HopsFound {
-            ok: false,
-            used: 0,
-            hops: none,
-        };
+        return blank(false, 0);
     }
-    let r = read_hops(&d[n..], v as usize, none);
-    let hops = r.hops;
-    HopsFound {
-        ok: r.ok,
-        used: n + r.used,
-        hops,
-    }
+    let mut r = read_hops(&d[n..], v as usize, 0);
+    let used = n + r.used;
+    r.used = used;
+    r
 }
 
 // Flood hops, source route, traversed hops.
@@ -111,8 +90,16 @@ pub(crate) fn read_three(d: &[u8], flags: Flags) -> WayFound
     let d2 = &d1[n2..];
     let c = read_route(d2, flags.hops);
     let ok = datagram_numbers::both(a.ok, datagram_numbers::both(b.ok, c.ok));
-    let route = b.hops;
-    let hops = c.hops;
+    let items = b.items;
+    let others = c.items;
+    let route = Hops {
+        count: b.count,
+        items,
+    };
+    let hops = Hops {
+        count: c.count,
+        items: others,
+    };
     WayFound {
         ok,
         used: n1 + (n2 + c.used),

@@ -5,6 +5,8 @@ use Rattle.layout.proofs.no_hops.Kinds as no-hops-kinds
 use Rattle.layout.proofs.no_hops.Reads as no-hops-reads
 use Rattle.layout.proofs.blank.Kinds as blank-kinds
 use Rattle.layout.proofs.blank.Reads as blank-reads
+use Rattle.layout.proofs.own_rules.Kinds as own-rules-kinds
+use Rattle.layout.proofs.own_rules.Reads as own-rules-reads
 use Rattle.layout.proofs.is_valid.Kinds as is-valid-kinds
 use Rattle.layout.proofs.is_valid.Reads as is-valid-reads
 
@@ -19,6 +21,12 @@ blank-one κs a x y v w p q = (p ∙ sym q, refl)
 
 pub blank-free : Free 0 blank-kinds.ps blank-reads.Pre
 blank-free κs a = tt
+
+pub own-rules-one : One 0 own-rules-kinds.ps own-rules-kinds.r own-rules-reads.Post
+own-rules-one κs a x y v w p q = (p ∙ sym q, refl)
+
+pub own-rules-free : Free 0 own-rules-kinds.ps own-rules-reads.Pre
+own-rules-free κs a = tt
 
 pub is-valid-one : One 0 is-valid-kinds.ps is-valid-kinds.r is-valid-reads.Post
 is-valid-one κs a x y v w p q = (p ∙ sym q, refl)

@@ -3,6 +3,7 @@
 use envelope::CallText;
 use envelope::Envelope;
 ghost use mathlib.Core.Path.{_≡_};
+ghost use Rattle.octets.specs.Words.{_and_};
 ghost use Rattle.envelope.specs.Rules.{callIn, ifSet};
 ghost use Rattle.layout.specs.Rules.{hopsIn, valid};
 ghost use Rattle.layout.specs.Texts.{noHops, blankDatagram};
@@ -117,6 +118,26 @@ fn hops_rule(has: bool, hops: Hops) -> bool
     are_hops(hops)
 }
 
+// Whether the fields that only a datagram has keep their rules: link source, source route and traversed hops.
+pub fn own_rules(
+    has_link: bool,
+    link: CallText,
+    has_route: bool,
+    route: Hops,
+    has_hops: bool,
+    hops: Hops,
+) -> bool
+    ensures { λ r. ⌜ r ≡ ifSet «has_link» (callIn link) and (ifSet «has_route» (hopsIn route) and ifSet «has_hops» (hopsIn hops)) ⌝ }
+{
+    if !link_rule(has_link, link) {
+        return false;
+    }
+    if !hops_rule(has_route, route) {
+        return false;
+    }
+    hops_rule(has_hops, hops)
+}
+
 // Whether the message is one that a datagram may carry.
 pub fn is_valid(m: Datagram) -> bool
     ensures { λ r. ⌜ r ≡ valid m ⌝ }
@@ -128,11 +149,5 @@ pub fn is_valid(m: Datagram) -> bool
     if !envelope::is_valid(fields) {
         return false;
     }
-    if !link_rule(m.has_link, link) {
-        return false;
-    }
-    if !hops_rule(m.has_route, route) {
-        return false;
-    }
-    hops_rule(m.has_hops, hops)
+    own_rules(m.has_link, link, m.has_route, route, m.has_hops, hops)
 }

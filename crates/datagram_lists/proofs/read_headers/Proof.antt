@@ -10,13 +10,10 @@ use Rattle.octets.specs.Field.{num}
 use Rattle.octets.proofs.FieldLaws.{num-laws}
 use Rattle.held_texts.specs.Texts.{noHeaders, withHeader}
 use Rattle.layout.specs.Layout.{header, headers, headerArray, headersOf}
-use Rattle.layout.proofs.Laws.{header-laws}
 use Rattle.datagram_numbers.proofs.Answers.{short16, got16, not-found}
-use Rattle.datagram_numbers.proofs.Chains.{tail, tail-length}
 use Rattle.datagram_numbers.proofs.Says.{flag-no, flag-yes}
-use Rattle.datagram_lists.specs.Found.{headersFound, listFrom}
-use Rattle.datagram_lists.proofs.Behind.{further, counted-short, counted-not, counted-is, list-room, all-headers}
-use Rattle.datagram_lists.proofs.Says.{items-none, items-got}
+use Rattle.datagram_lists.specs.Found.{headersFound}
+use Rattle.datagram_lists.proofs.Behind.{counted-short, counted-not, counted-is, all-headers}
 use Rattle.datagram_lists.proofs.read_headers.Statement.{statement}
 use Rattle.datagram_lists.proofs.read_headers.Tie as tie
 
@@ -51,54 +48,23 @@ returns-4 c =
     let at-read-u16 = c .before .before .before .before .before .before .read-u16 in
     c .no-headers4 .ensures ∙ sym (ap headersFound (flag-yes (at-args .has) noHeaders headers (at-args .d .now) (not-false _ (at-if1 .left)) ∙ not-found _ (at-args .d .now) false noHeaders 0 (counted-not header withHeader noHeaders headerArray headersOf (λ h. h .count ≤? 8) (between 1 8) 2 (at-args .d .now) (at-c .given .0 .0) (at-c .given .0 .1 .0) (got16 (num 2 .parse (at-args .d .now)) (at-read-u16 .result) _ _ (at-read-u16 .ensures) (at-c .given .1)) noHeaders (above 1 8 (at-c .given .0 .0) (c .before .if3 .taken))) refl))
 
-sub-read-items : tie.Need-sub-read-items
-sub-read-items c =
+read-items-requires : tie.Need-read-items-requires
+read-items-requires c κs =
     let at-args = c .before .before .before .before .before .before .before .before .args in
     let at-c = c .before .before .before .c in
     let at-read-u16 = c .before .before .before .before .before .read-u16 in
-    num-laws 2 .room (at-args .d .now) (at-c .given .0 .0) (at-c .given .0 .1 .0) (got16 (num 2 .parse (at-args .d .now)) (at-read-u16 .result) _ _ (at-read-u16 .ensures) (at-c .given .1))
-
-part-read-items-start : tie.Need-part-read-items-start
-part-read-items-start c =
-    let at-args = c .before .before .before .before .before .before .before .before .args in
-    let at-c = c .before .before .before .c in
-    let at-read-u16 = c .before .before .before .before .before .read-u16 in
-    num-laws 2 .room (at-args .d .now) (at-c .given .0 .0) (at-c .given .0 .1 .0) (got16 (num 2 .parse (at-args .d .now)) (at-read-u16 .result) _ _ (at-read-u16 .ensures) (at-c .given .1))
+    (num-laws 2 .room (at-args .d .now) (at-c .given .0 .0) (at-c .given .0 .1 .0) (got16 (num 2 .parse (at-args .d .now)) (at-read-u16 .result) _ _ (at-read-u16 .ensures) (at-c .given .1)), c .if3 .left)
 
 returns-5 : tie.Need-returns-5
 unfolding headers
 returns-5 c =
-    let at-args = c .before .before .before .before .before .before .before .before .before .before .before .before .before .args in
-    let at-if1 = c .before .before .before .before .before .before .before .before .before .before .before .if1 in
-    let at-c = c .before .before .before .before .before .before .before .before .c in
-    let at-read-u16 = c .before .before .before .before .before .before .before .before .before .before .read-u16 in
-    let at-if2 = c .before .before .before .before .before .before .if2 in
-    let at-if3 = c .before .before .before .before .before .if3 in
-    let at-read-items = c .before .before .before .read-items in
-    c .no-headers5 .ensures ∙ sym (ap headersFound (flag-yes (at-args .has) noHeaders headers (at-args .d .now) (not-false _ (at-if1 .left)) ∙ counted-is header withHeader noHeaders headerArray headersOf (λ h. h .count ≤? 8) (between 1 8) 2 (at-args .d .now) (at-c .given .0 .0) (at-c .given .0 .1 .0) (got16 (num 2 .parse (at-args .d .now)) (at-read-u16 .result) _ _ (at-read-u16 .ensures) (at-c .given .1)) (inside 1 8 (at-c .given .0 .0) (at-if2 .left) (at-if3 .left)) (λ l q. all-headers l (omega (arith, q, at-if3 .left))) ∙ ap (further (at-c .given .0 .1 .0)) (items-none (listFrom header withHeader (at-c .given .0 .0) noHeaders (tail (at-c .given .0 .1 .0) (at-args .d .now))) (at-read-items .result) (at-read-items .ensures) (not-true _ (c .before .if4 .taken)))))
-
-add-t13 : tie.Need-add-t13
-add-t13 c =
-    let at-args = c .before .before .before .before .before .before .before .before .before .before .before .before .before .before .args in
-    let at-c = c .before .before .before .before .before .before .before .before .before .c in
-    let at-read-u16 = c .before .before .before .before .before .before .before .before .before .before .before .read-u16 in
-    let at-read-items = c .before .before .before .before .read-items in
-    let at-if4 = c .before .before .if4 in
-    let at-good = c .before .before .before .before .before .before .before .before .before .before .before .before .before .before .good in
-    omega (arith, num-laws 2 .room (at-args .d .now) (at-c .given .0 .0) (at-c .given .0 .1 .0) (got16 (num 2 .parse (at-args .d .now)) (at-read-u16 .result) _ _ (at-read-u16 .ensures) (at-c .given .1)), list-room header withHeader header-laws (at-c .given .0 .0) noHeaders (at-read-items .result .headers) (tail (at-c .given .0 .1 .0) (at-args .d .now)) (at-read-items .result .used) (items-got (listFrom header withHeader (at-c .given .0 .0) noHeaders (tail (at-c .given .0 .1 .0) (at-args .d .now))) (at-read-items .result) (at-read-items .ensures) (not-false _ (at-if4 .left))), tail-length (at-c .given .0 .1 .0) (at-args .d .now), at-good .0)
-
-returns-6 : tie.Need-returns-6
-unfolding headers
-returns-6 c =
-    let at-args = c .before .before .before .before .before .before .before .before .before .before .before .before .before .before .args in
-    let at-if1 = c .before .before .before .before .before .before .before .before .before .before .before .before .if1 in
-    let at-c = c .before .before .before .before .before .before .before .before .before .c in
-    let at-read-u16 = c .before .before .before .before .before .before .before .before .before .before .before .read-u16 in
-    let at-if2 = c .before .before .before .before .before .before .before .if2 in
-    let at-if3 = c .before .before .before .before .before .before .if3 in
-    let at-read-items = c .before .before .before .before .read-items in
-    let at-if4 = c .before .before .if4 in
-    sym (ap headersFound (flag-yes (at-args .has) noHeaders headers (at-args .d .now) (not-false _ (at-if1 .left)) ∙ counted-is header withHeader noHeaders headerArray headersOf (λ h. h .count ≤? 8) (between 1 8) 2 (at-args .d .now) (at-c .given .0 .0) (at-c .given .0 .1 .0) (got16 (num 2 .parse (at-args .d .now)) (at-read-u16 .result) _ _ (at-read-u16 .ensures) (at-c .given .1)) (inside 1 8 (at-c .given .0 .0) (at-if2 .left) (at-if3 .left)) (λ l q. all-headers l (omega (arith, q, at-if3 .left))) ∙ ap (further (at-c .given .0 .1 .0)) (items-got (listFrom header withHeader (at-c .given .0 .0) noHeaders (tail (at-c .given .0 .1 .0) (at-args .d .now))) (at-read-items .result) (at-read-items .ensures) (not-false _ (at-if4 .left)))))
+    let at-args = c .before .before .before .before .before .before .before .before .before .args in
+    let at-if1 = c .before .before .before .before .before .before .before .if1 in
+    let at-c = c .before .before .before .before .c in
+    let at-read-u16 = c .before .before .before .before .before .before .read-u16 in
+    let at-if2 = c .before .before .if2 in
+    let at-if3 = c .before .if3 in
+    c .read-items .ensures ∙ sym (ap headersFound (flag-yes (at-args .has) noHeaders headers (at-args .d .now) (not-false _ (at-if1 .left)) ∙ counted-is header withHeader noHeaders headerArray headersOf (λ h. h .count ≤? 8) (between 1 8) 2 (at-args .d .now) (at-c .given .0 .0) (at-c .given .0 .1 .0) (got16 (num 2 .parse (at-args .d .now)) (at-read-u16 .result) _ _ (at-read-u16 .ensures) (at-c .given .1)) (inside 1 8 (at-c .given .0 .0) (at-if2 .left) (at-if3 .left)) (λ l q. all-headers l (omega (arith, q, at-if3 .left)))))
 
 pub read-headers-spec : {M : Type 1} → statement M
 read-headers-spec =
@@ -115,12 +81,6 @@ read-headers-spec =
     returns-3
     (λ c κs. search needs)
     returns-4
-    sub-read-items
-    part-read-items-start
     (λ c. search needs)
-    (λ c. search needs)
-    (λ c κs. search needs)
-    (λ c κs. search needs)
-    returns-5
-    add-t13
-    returns-6)
+    read-items-requires
+    returns-5)

@@ -13,23 +13,23 @@ use Rattle.layout.proofs.Laws.{header-laws}
 use Rattle.datagram_numbers.proofs.Answers.{said, not-found, is-found}
 use Rattle.datagram_numbers.proofs.Chains.{tail, tail-length}
 use Rattle.datagram_texts.proofs.Says.{says-header}
-use Rattle.datagram_lists.specs.Found.{headersFound, listFrom}
-use Rattle.datagram_lists.proofs.Behind.{further, header-added}
+use Rattle.datagram_lists.specs.Found.{headersFound, listFrom, further}
+use Rattle.datagram_lists.proofs.Behind.{header-added}
 use Rattle.datagram_lists.proofs.Loop.{loop-start, loop-next, loop-none, loop-end}
 use Rattle.datagram_lists.proofs.headings.read_items.Statement.{statement}
 use Rattle.datagram_lists.proofs.headings.read_items.Tie as tie
 
 abbrev Inv-loop : tie.InvT-loop
-Inv-loop d k items₀ at₀ i₀ items at i = (i ≤ k) × (at ≤ length d) × (length items ≡ 8) × (listFrom header withHeader k noHeaders d ≡ further at (listFrom header withHeader (k - i) (record { items = items; count = i }) (drop at d)))
+Inv-loop d n k items₀ at₀ i₀ items at i = (i ≤ k) × (at ≤ length d) × (length items ≡ 8) × (further n (listFrom header withHeader k noHeaders (drop n d)) ≡ further at (listFrom header withHeader (k - i) (record { items = items; count = i }) (drop at d)))
 
 abbrev μ-loop : tie.MeasureT-loop
-μ-loop d k items₀ at₀ i₀ items at i = k - i
+μ-loop d n k items₀ at₀ i₀ items at i = k - i
 
 loop-holds : tie.Need-loop-holds Inv-loop μ-loop
 loop-holds c =
     let at-no-headers = c .before .no-headers in
     let at-args = c .before .before .before .args in
-    (search needs, search needs, ap (λ (h : Headers). length (h .items)) (at-no-headers .ensures), loop-start header withHeader (at-args .k) noHeaders _ (at-args .d .now) (ap (λ (h : Headers). record { items = h .items; count = 0 }) (at-no-headers .ensures)))
+    (search needs, search needs, ap (λ (h : Headers). length (h .items)) (at-no-headers .ensures), loop-start header withHeader (at-args .k) (at-args .n) noHeaders _ (at-args .d .now) (ap (λ (h : Headers). record { items = h .items; count = 0 }) (at-no-headers .ensures)))
 
 returns : tie.Need-returns Inv-loop μ-loop
 returns c =
@@ -44,14 +44,14 @@ mul-items c =
     let at-loop = c .before .before .before .before .before .before .loop in
     let at-pre = c .before .before .before .before .before .before .before .before .before .before .pre in
     let at-loop-test = c .before .before .before .before .before .loop-test in
-    omega (arith, at-loop .inv .2, at-pre, at-loop-test .taken)
+    omega (arith, at-loop .inv .2, at-pre .1, at-loop-test .taken)
 
 array-set-from-items : tie.Need-array-set-from-items Inv-loop μ-loop
 array-set-from-items c =
     let at-loop = c .before .before .before .before .before .before .loop in
     let at-pre = c .before .before .before .before .before .before .before .before .before .before .pre in
     let at-loop-test = c .before .before .before .before .before .loop-test in
-    omega (arith, at-loop .inv .2, at-pre, at-loop-test .taken)
+    omega (arith, at-loop .inv .2, at-pre .1, at-loop-test .taken)
 
 add-at : tie.Need-add-at Inv-loop μ-loop
 add-at c =
@@ -69,7 +69,7 @@ loop-again c =
     let at-read-header = c .before .before .before .before .read-header in
     let at-if1 = c .before .before .if1 in
     let at-pre = c .before .before .before .before .before .before .before .before .before .before .before .pre in
-    (omega (arith, at-loop-test .taken), omega (arith, (said says-header header header-laws (tail (at-loop .at) (at-args .d .now)) (at-read-header .result) (at-read-header .ensures)) .1, tail-length (at-loop .at) (at-args .d .now), at-loop .inv .1), rw length-set (at-loop .inv .2), loop-next header withHeader (at-args .k) (at-loop .i) (at-loop .at) (at-read-header .result .used) _ _ _ (at-args .d .now) _ (at-loop-test .taken) (at-loop .inv .3) (is-found _ (tail (at-loop .at) (at-args .d .now)) _ _ _ (said says-header header header-laws (tail (at-loop .at) (at-args .d .now)) (at-read-header .result) (at-read-header .ensures)) (not-false _ (at-if1 .left))) (header-added (at-loop .items) (at-loop .i) _ _ (omega (arith, at-pre, at-loop-test .taken)) refl))
+    (omega (arith, at-loop-test .taken), omega (arith, (said says-header header header-laws (tail (at-loop .at) (at-args .d .now)) (at-read-header .result) (at-read-header .ensures)) .1, tail-length (at-loop .at) (at-args .d .now), at-loop .inv .1), rw length-set (at-loop .inv .2), loop-next header withHeader (at-args .k) (at-loop .i) (at-loop .at) (at-read-header .result .used) _ _ _ (at-args .d .now) _ (at-loop-test .taken) (at-loop .inv .3) (is-found _ (tail (at-loop .at) (at-args .d .now)) _ _ _ (said says-header header header-laws (tail (at-loop .at) (at-args .d .now)) (at-read-header .result) (at-read-header .ensures)) (not-false _ (at-if1 .left))) (header-added (at-loop .items) (at-loop .i) _ _ (omega (arith, at-pre .1, at-loop-test .taken)) refl))
 
 returns-2 : tie.Need-returns-2 Inv-loop μ-loop
 returns-2 c =

@@ -19,8 +19,8 @@ part-d1-start c =
     let at-args = c .before .before .args in
     said says-8 (floodIf (at-args .flags .flood)) (floodIf-laws (at-args .flags .flood)) (at-args .d .now) (c .read-flood .result) (c .read-flood .ensures) .1
 
-add-t14 : tie.Need-add-t14
-add-t14 c =
+add-t16 : tie.Need-add-t16
+add-t16 c =
     let at-args = c .before .before .before .before .before .before .before .before .before .before .before .args in
     let at-read-flood = c .before .before .before .before .before .before .before .before .before .read-flood in
     let at-read-route = c .before .before .before .before .before .before .before .read-route in
@@ -28,8 +28,8 @@ add-t14 c =
     let at-good = c .before .before .before .before .before .before .before .before .before .before .before .good in
     omega (arith, said says-8 (floodIf (at-args .flags .flood)) (floodIf-laws (at-args .flags .flood)) (at-args .d .now) (at-read-flood .result) (at-read-flood .ensures) .1, at-read-route .ensures .1, at-read-route2 .ensures .1, tail-length (at-read-flood .result .used) (at-args .d .now), tail-length (at-read-route .result .used) (tail (at-read-flood .result .used) (at-args .d .now)), at-good .0)
 
-add-t19 : tie.Need-add-t19
-add-t19 c =
+add-t21 : tie.Need-add-t21
+add-t21 c =
     let at-args = c .before .before .before .before .before .before .before .before .before .before .before .args in
     let at-read-flood = c .before .before .before .before .before .before .before .before .before .read-flood in
     let at-read-route = c .before .before .before .before .before .before .before .read-route in
@@ -63,6 +63,6 @@ read-three-spec =
     (λ c κs. search needs)
     (λ c κs. search needs)
     (λ c κs. search needs)
-    add-t14
-    add-t19
+    add-t16
+    add-t21
     returns)

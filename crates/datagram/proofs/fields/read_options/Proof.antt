@@ -1,15 +1,16 @@
 -- Fragment, stream and headers, each from the part behind the last.
 use native.Mathlib.Omega.{arith}
 use borrow.Author.Needs.{needs}
+use Rattle.datagram_numbers.proofs.Answers.{said}
+use Rattle.datagram_numbers.proofs.Chains.{tail}
 use Rattle.layout.specs.Layout.{options, fragmentIf, streamIf, headersIf}
 use Rattle.layout.proofs.Laws.{fragmentIf-laws, streamIf-laws, headersIf-laws}
-use Rattle.datagram_numbers.proofs.Answers.{said}
-use Rattle.datagram_numbers.proofs.Chains.{tail, tail-length, three-found}
+use Rattle.datagram_numbers.proofs.Chains.{tail-length, three-found}
 use Rattle.datagram_numbers.proofs.Says.{says-fragment}
 use Rattle.datagram_texts.proofs.Says.{says-stream}
 use Rattle.datagram_lists.proofs.Says.{says-headers}
-use Rattle.datagram_fields.proofs.groups.read_options.Statement.{statement}
-use Rattle.datagram_fields.proofs.groups.read_options.Tie as tie
+use Rattle.datagram.proofs.fields.read_options.Statement.{statement}
+use Rattle.datagram.proofs.fields.read_options.Tie as tie
 
 sub-d1 : tie.Need-sub-d1
 sub-d1 c =

@@ -1,2 +1,0 @@
--- What the reader of a datagram's fields answers.
-pub mod Found
