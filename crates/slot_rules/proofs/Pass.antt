@@ -35,6 +35,14 @@ module _ (p : Slot → Bool) (l : List Slot) (found i : ℕ) (h : i < length l) 
       turn : foundOr found (first p i (drop i l)) ≡ foundOr (seenAt found i (p (slotIn l i))) (first p (i + 1) (drop (i + 1) l))
       turn = rw (drop-next l i pastSlot h) (go (found <? 32) (p (slotIn l i)) refl)
 
+  -- a place that does not pass leaves what was found
+  pub seen-skip : p (slotIn l i) ≡ false → Seen p l found (i + 1)
+  seen-skip f = seen-next found (go (found <? 32) refl ∙ ap (seenAt found i) (sym f))
+    where
+      go : (a : Bool) → (found <? 32) ≡ a → found ≡ (if a then found else 32)
+      go true e = refl
+      go false e = let z = ltb-false found 32 e in omega (arith, w .0)
+
 -- all were looked at
 pub seen-end : (p : Slot → Bool) (l : List Slot) (found i : ℕ) → length l ≤ i → Seen p l found i → found ≡ placeNumber (first p 0 l)
 seen-end p l found i h w = sym (ap placeNumber (w .1 ∙ ap (λ (r : List Slot). foundOr found (first p i r)) (drop-of-length-le l {i = i} h)) ∙ go (found <? 32) refl)

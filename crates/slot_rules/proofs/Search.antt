@@ -1,21 +1,29 @@
 -- Searches in the slots: what a turn of each loop comes to, and where what was found stands.
-use mathlib.Core.Path.{_≡_}
+use mathlib.Core.Path.{_≡_, sym, ap, _∙_}
 use Prim.Native.Nat.{ℕ, suc, _+_, _≤_, _<_}
 use native.Mathlib.Omega.{arith}
 use mathlib.Core.Bool.{Bool, true, false}
 use mathlib.Core.List.{List, [], _∷_}
 use lib.ListN.{length, getD, drop, drop-of-length-le}
 use Rattle.octets.specs.Words.{if_then_else_}
-use Rattle.octets.proofs.Tests.{and-not-left, and-next, no-true, no-false}
+use Rattle.octets.proofs.Tests.{if-yes, if-no, and-not-left, and-next, no-true, no-false}
 use Rattle.octets.proofs.Lists.{drop-next}
+use Rattle.keys.specs.declared.Key.{Key}
 use Rattle.slots.specs.declared.Slot.{Slot}
-use Rattle.slot_rules.specs.Slots.{Found, twice, distinct, first, openCount}
+use Rattle.slots.specs.Slot.{keepsOpen, keepsFree}
+use Rattle.slot_rules.specs.Slots.{keepsSlot, hasKey, Found, twice, distinct, first, openCount}
 
 -- ---- a turn of a loop
 
 module _ (l : List Slot) (i : ℕ) (d : Slot) (h : i < length l) where
-  pub count-next : openCount (drop i l) ≡ (if getD l i d .«is_open» then 1 else 0) + openCount (drop (i + 1) l)
-  count-next = rw (drop-next l i d h)
+  count-next : (b : Bool) → getD l i d .«is_open» ≡ b → openCount (drop i l) ≡ (if b then 1 else 0) + openCount (drop (i + 1) l)
+  count-next b e = rw (drop-next l i d h) (ap (λ (o : Bool). (if o then 1 else 0) + openCount (drop (i + 1) l)) e)
+
+  pub count-open : getD l i d .«is_open» ≡ true → openCount (drop i l) ≡ 1 + openCount (drop (i + 1) l)
+  count-open = count-next true
+
+  pub count-free : getD l i d .«is_open» ≡ false → openCount (drop i l) ≡ openCount (drop (i + 1) l)
+  count-free e = let c = count-next false e in omega arith
 
   pub distinct-not : twice (getD l i d) (drop (i + 1) l) ≡ true → distinct (drop i l) ≡ false
   distinct-not e = rw (drop-next l i d h) (and-not-left _ _ (no-true _ e))
@@ -26,6 +34,21 @@ module _ (l : List Slot) (i : ℕ) (d : Slot) (h : i < length l) where
 -- past the end
 pub past : (l : List Slot) (i : ℕ) → length l ≤ i → drop i l ≡ []
 past l i h = drop-of-length-le l {i = i} h
+
+-- ---- the rules of one slot
+
+pub kept-open : (x : Slot) (b : Bool) → x .«is_open» ≡ true → b ≡ keepsOpen x → b ≡ keepsSlot x
+unfolding keepsSlot
+kept-open x b o e = e ∙ sym (if-yes _ _ _ o)
+
+pub kept-free : (x : Slot) (b : Bool) → x .«is_open» ≡ false → b ≡ keepsFree x → b ≡ keepsSlot x
+unfolding keepsSlot
+kept-free x b o e = e ∙ sym (if-no _ _ _ o)
+
+-- a free slot has no key
+pub free-unlike : (k : Key) (x : Slot) → x .«is_open» ≡ false → hasKey k x ≡ false
+unfolding hasKey
+free-unlike k x o = and-not-left _ _ o
 
 -- ---- what was found
 

@@ -1,7 +1,7 @@
 -- What the private steps of the code come to. No public promise cites this file.
-use Prim.Native.Nat.{ℕ, _+_, _<_, _≤_}
+use Prim.Native.Nat.{ℕ, _<_, _≤_}
 use mathlib.Core.Path.{_≡_}
-use mathlib.Core.Bool.{Bool}
+use mathlib.Core.Bool.{Bool, true}
 use mathlib.Core.List.{List}
 use lib.ListN.{getD, drop}
 use Rattle.octets.specs.Words.{if_then_else_, _<?_}
@@ -9,13 +9,9 @@ use Rattle.keys.specs.Key.{streamIdOf, markOf}
 use Rattle.slots.specs.declared.Slot.{Slot}
 use Rattle.slot_rules.specs.Slots.{Found, first, slotIn}
 
--- the mark of slot i: that of its key, where it is open
-abbrev pub markAt : ℕ → Slot → ℕ
-markAt i x = if x .«is_open» then markOf (streamIdOf (x .key)) else (4294967296 + i)
-
--- the marks of the first n slots
+-- the marks of the open ones of the first n slots
 abbrev pub Marked : List Slot → List ℕ → ℕ → Type 0
-Marked l marks n = (i : ℕ) → i < n → getD marks i 0 ≡ markAt i (slotIn l i)
+Marked l marks n = (i : ℕ) → i < n → slotIn l i .«is_open» ≡ true → getD marks i 0 ≡ markOf (streamIdOf (slotIn l i .key))
 
 -- the first place that passed, the places before i having been looked at
 abbrev pub seenAt : ℕ → ℕ → Bool → ℕ

@@ -1,9 +1,9 @@
 // Document 01, "Streams": the 32 slots of a table together: their rules (40), and what one pass over them finds.
 ghost use mathlib.Core.Path.{_≡_};
-ghost use Prim.Native.Nat.{_<_};
+ghost use Prim.Native.Nat.{_+_, _<_};
 ghost use Rattle.octets.specs.Words.{if_then_else_};
 ghost use Rattle.slot_rules.specs.Slots.{testOf, broken};
-ghost use Rattle.slot_rules.specs.Steps.{markAt, seenAt};
+ghost use Rattle.slot_rules.specs.Steps.{seenAt};
 use keys::Key;
 use slots::Slot;
 
@@ -16,30 +16,38 @@ pub struct Ruled {
     pub rows: usize,
 }
 
-// Tests each slot, then each pair of slots whose marks are equal: unlike marks are unlike keys. One function, since each one that is handed
-// the slots copies them.
+// Tests each slot, then each pair of open slots whose marks are equal: unlike marks are unlike keys. One function, since each one that is
+// handed the slots copies them.
 pub fn test(slots: [Slot; 32], key: Key) -> Ruled
     ensures { λ r. ⌜ r ≡ testOf slots key ⌝ }
 {
-    let mut marks = [0u64; 32];
+    let mut marks = [0u32; 32];
     let mut found: usize = 32;
     let mut free: usize = 32;
     let mut rows: usize = 0;
     let mut i: usize = 0;
     while i < 32 {
+        if !slots[i].is_open {
+            if !slots[i].free_keeps_rules() {
+                return broken();
+            }
+            free = seen(free, i, true);
+            i += 1;
+            continue;
+        }
         let x = slots[i];
-        if !x.keeps_rules() {
+        if !x.open_keeps_rules() {
             return broken();
         }
-        marks[i] = mark_of(x, i);
+        let own = x.key;
+        marks[i] = keys::mark(own);
         found = seen(found, i, x.has_key(key));
-        free = seen(free, i, !x.is_open);
-        rows += one(x.is_open);
+        rows += 1;
         i += 1;
     }
     let mut k: usize = 0;
     while k < 32 {
-        let mut j = k + 1;
+        let mut j = behind(k, slots[k].is_open);
         while j < 32 {
             if marks[j] != marks[k] {
                 j += 1;
@@ -86,23 +94,13 @@ fn seen(found: usize, i: usize, passes: bool) -> usize
     32
 }
 
-fn one(b: bool) -> usize
-    ensures { λ r. ⌜ (r ≡ (if b then 1 else 0)) × (r < 2) ⌝ }
+// Where the slots to compare with slot k begin: behind it, or past the last where it is free.
+fn behind(k: usize, is_open: bool) -> usize
+    requires { ⌜ k < 32 ⌝ }
+    ensures { λ r. ⌜ r ≡ (if «is_open» then k + 1 else 32) ⌝ }
 {
-    if b {
-        return 1;
+    if is_open {
+        return k + 1;
     }
-    0
-}
-
-// The mark of an open slot's key, or a number that no key and no other slot has.
-fn mark_of(x: Slot, i: usize) -> u64
-    requires { ⌜ i < 32 ⌝ }
-    ensures { λ r. ⌜ r ≡ markAt i x ⌝ }
-{
-    if !x.is_open {
-        return 4294967296 + lengths::wide_size(i);
-    }
-    let key = x.key;
-    lengths::wide32(keys::mark(key))
+    32
 }

@@ -16,8 +16,15 @@ freeSlot = record { «is_open» = false; key = noKey; row = noRow }
 abbrev pub isFree : Slot → Bool
 isFree x = no (x .«is_open»)
 
+abbrev pub keepsFree : Slot → Bool
+keepsFree x = isNoKey (x .key) and isNoRow (x .row)
+
+-- key and row of an open one keep their rules
+abbrev pub keepsOpen : Slot → Bool
+keepsOpen x = keepsKey (x .key) and keepsRow (x .row)
+
 unfoldable pub keepsSlot : Slot → Bool
-keepsSlot x = if x .«is_open» then keepsKey (x .key) and keepsRow (x .row) else isNoKey (x .key) and isNoRow (x .row)
+keepsSlot x = if x .«is_open» then keepsOpen x else keepsFree x
 
 -- the slot is open and has the key
 unfoldable pub hasKey : Key → Slot → Bool

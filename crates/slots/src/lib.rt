@@ -1,7 +1,7 @@
 // Document 01, "Streams": a slot of the table, which is an open row with its key, or a free one, all zero.
 ghost use mathlib.Core.Path.{_≡_};
 ghost use Rattle.octets.specs.Words.{_and_};
-ghost use Rattle.slots.specs.Slot.{freeSlot, keepsSlot, hasKey, slotFor};
+ghost use Rattle.slots.specs.Slot.{freeSlot, keepsOpen, keepsFree, hasKey, slotFor};
 use keys::Key;
 use rows::Row;
 
@@ -25,21 +25,28 @@ impl Slot {
         }
     }
 
-    // Whether the slot keeps its rules (40).
-    pub fn keeps_rules(self) -> bool
-        ensures { λ r. ⌜ r ≡ keepsSlot self ⌝ }
+    // Whether an open slot keeps its rules (40). An open slot and a free one have a function each, since what is tested is copied: of a free
+    // slot, which is most of them, nothing is then copied.
+    pub fn open_keeps_rules(self) -> bool
+        ensures { λ r. ⌜ r ≡ keepsOpen self ⌝ }
     {
         let key = self.key;
-        let row = self.row;
-        if self.is_open {
-            if !keys::keeps_rules(key) {
-                return false;
-            }
-            return row.keeps_rules();
+        if !keys::keeps_rules(key) {
+            return false;
         }
+        let row = self.row;
+        row.keeps_rules()
+    }
+
+    // Whether a free slot keeps its rules (40).
+    pub fn free_keeps_rules(self) -> bool
+        ensures { λ r. ⌜ r ≡ keepsFree self ⌝ }
+    {
+        let key = self.key;
         if !keys::is_none(key) {
             return false;
         }
+        let row = self.row;
         row.is_none()
     }
 

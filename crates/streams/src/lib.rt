@@ -18,14 +18,15 @@ pub struct Table {
     pub slots: [Slot; 32],
 }
 
+// The table stands first, so that nothing lies between it and the answer's start: what is handed back is then copied once.
 pub struct Served {
-    pub answer: Accepting,
     pub table: Table,
+    pub answer: Accepting,
 }
 
 pub struct Taken {
-    pub answer: Giving,
     pub table: Table,
+    pub answer: Giving,
 }
 
 pub enum Count {
@@ -65,24 +66,25 @@ impl Table {
         let slots = self.slots;
         let r = slot_rules::test(slots, key);
         let p = lookups::known_or_free(r.good, named.refusal, r.found, number, r.free);
-        match p {
-            Target::Refused(n) => Served {
-                answer: Accepting::Refused(n),
-                table: self,
-            },
-            Target::At(i) => {
-                let mut x = self.slots[i].for_key(key);
-                let row = x.row;
-                let o = row.offer(number, timeout, slip, time);
-                let answer = o.answer;
-                let next = o.row;
-                x.row = next;
-                self.slots[i] = x;
-                Served {
-                    answer: answer,
+        let i = match p {
+            Target::Refused(n) => {
+                return Served {
                     table: self,
-                }
+                    answer: Accepting::Refused(n),
+                };
             }
+            Target::At(i) => i,
+        };
+        let mut x = self.slots[i].for_key(key);
+        let row = x.row;
+        let o = row.offer(number, timeout, slip, time);
+        let answer = o.answer;
+        let next = o.row;
+        x.row = next;
+        self.slots[i] = x;
+        Served {
+            table: self,
+            answer: answer,
         }
     }
 
@@ -95,24 +97,25 @@ impl Table {
         let slots = self.slots;
         let r = slot_rules::test(slots, key);
         let p = lookups::known(r.good, named.refusal, r.found);
-        match p {
-            Target::Refused(n) => Taken {
-                answer: Giving::Refused(n),
-                table: self,
-            },
-            Target::At(i) => {
-                let mut x = self.slots[i];
-                let row = x.row;
-                let o = row.take(time);
-                let answer = o.answer;
-                let next = o.row;
-                x.row = next;
-                self.slots[i] = x;
-                Taken {
-                    answer: answer,
+        let i = match p {
+            Target::Refused(n) => {
+                return Taken {
                     table: self,
-                }
+                    answer: Giving::Refused(n),
+                };
             }
+            Target::At(i) => i,
+        };
+        let mut x = self.slots[i];
+        let row = x.row;
+        let o = row.take(time);
+        let answer = o.answer;
+        let next = o.row;
+        x.row = next;
+        self.slots[i] = x;
+        Taken {
+            table: self,
+            answer: answer,
         }
     }
 
@@ -125,24 +128,25 @@ impl Table {
         let slots = self.slots;
         let r = slot_rules::test(slots, key);
         let p = lookups::known(r.good, named.refusal, r.found);
-        match p {
-            Target::Refused(n) => Taken {
-                answer: Giving::Refused(n),
-                table: self,
-            },
-            Target::At(i) => {
-                let mut x = self.slots[i];
-                let row = x.row;
-                let o = row.force(time);
-                let answer = o.answer;
-                let next = o.row;
-                x.row = next;
-                self.slots[i] = x;
-                Taken {
-                    answer: answer,
+        let i = match p {
+            Target::Refused(n) => {
+                return Taken {
                     table: self,
-                }
+                    answer: Giving::Refused(n),
+                };
             }
+            Target::At(i) => i,
+        };
+        let mut x = self.slots[i];
+        let row = x.row;
+        let o = row.force(time);
+        let answer = o.answer;
+        let next = o.row;
+        x.row = next;
+        self.slots[i] = x;
+        Taken {
+            table: self,
+            answer: answer,
         }
     }
 
@@ -155,24 +159,25 @@ impl Table {
         let slots = self.slots;
         let r = slot_rules::test(slots, key);
         let p = lookups::known(r.good, named.refusal, r.found);
-        match p {
-            Target::Refused(n) => Served {
-                answer: Accepting::Refused(n),
-                table: self,
-            },
-            Target::At(i) => {
-                if self.slots[i].row.count != 0 {
-                    return Served {
-                        answer: Accepting::Refused(refusals::STILL_HOLDING),
-                        table: self,
-                    };
-                }
-                self.slots[i] = Slot::free();
-                Served {
-                    answer: Accepting::Accepted,
+        let i = match p {
+            Target::Refused(n) => {
+                return Served {
                     table: self,
-                }
+                    answer: Accepting::Refused(n),
+                };
             }
+            Target::At(i) => i,
+        };
+        if self.slots[i].row.count != 0 {
+            return Served {
+                table: self,
+                answer: Accepting::Refused(refusals::STILL_HOLDING),
+            };
+        }
+        self.slots[i] = Slot::free();
+        Served {
+            table: self,
+            answer: Accepting::Accepted,
         }
     }
 

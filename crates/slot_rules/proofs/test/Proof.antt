@@ -1,19 +1,19 @@
 -- Each slot keeps its rules, and what the pass found and the rest decide. Then each pair: from each slot on, and from each later one on, the rest decides.
-use Prim.Native.Nat.{_+_, _-_, _≤_, _<_}
+use Prim.Native.Nat.{ℕ, _+_, _-_, _≤_, _<_}
 use mathlib.Core.Path.{_≡_, refl, sym, ap, _∙_}
-use mathlib.Core.Bool.{true}
+use mathlib.Core.Bool.{true, false}
 use native.Mathlib.Omega.{arith}
 use borrow.Author.Needs.{needs}
 use borrow.Author.Tests.{eq-eqb, not-true, not-false}
 use lib.ListN.{length, drop, length-set}
 use Rattle.octets.specs.Words.{every}
-use Rattle.octets.proofs.Tests.{and-next, and-not-left}
+use Rattle.octets.proofs.Tests.{and-next, and-not-left, no-true, no-false}
 use Rattle.octets.proofs.Lists.{unmapped, every-next, every-not}
 use Rattle.slot_rules.specs.Slots.{keepsSlot, hasKey, isFree, twice, distinct, keepsSlots, openCount, slotIn, pastSlot}
 use Rattle.slot_rules.specs.Steps.{Marked, Seen, seenAt}
-use Rattle.slot_rules.proofs.Search.{count-next, distinct-not, distinct-next, past}
-use Rattle.slot_rules.proofs.Marks.{marked-more, marks-unlike, twice-here, twice-next, twice-end}
-use Rattle.slot_rules.proofs.Pass.{seen-next, seen-end, test-broken, test-good}
+use Rattle.slot_rules.proofs.Search.{kept-open, kept-free, free-unlike, count-open, count-free, distinct-not, distinct-next, past}
+use Rattle.slot_rules.proofs.Marks.{marked-more, marked-free, marks-unlike, twice-from, twice-here, twice-next, twice-end}
+use Rattle.slot_rules.proofs.Pass.{seen-next, seen-skip, seen-end, test-broken, test-good}
 use Rattle.slot_rules.proofs.test.Statement.{statement}
 use Rattle.slot_rules.proofs.test.Tie as tie
 
@@ -41,30 +41,63 @@ loop-holds c = (search unmapped, search needs, omega arith, refl, λ n h. absurd
 returns : tie.Need-returns Inv-loop μ-loop Inv-loop3 μ-loop3 Inv-loop2 μ-loop2
 unfolding keepsSlots
 returns c =
-    let at-args = c .before .before .before .before .before .before .args in
-    let at-loop = c .before .before .before .before .before .loop in
-    let at-keeps-rules = c .before .before .keeps-rules in
-    test-broken (at-args .t1) (at-args .key) _ (c .broken .ensures) (and-next _ _ (eq-eqb _ _ (at-loop .inv .0)) ∙ and-not-left _ _ (at-loop .inv .3 ∙ every-not keepsSlot _ (at-loop .i) pastSlot (omega arith) (sym (at-keeps-rules .ensures) ∙ not-true _ (c .before .if1 .taken))))
+    let at-args = c .before .before .before .before .before .before .before .args in
+    let at-loop = c .before .before .before .before .before .before .loop in
+    let at-if1 = c .before .before .before .before .if1 in
+    let at-free-keeps-rules = c .before .before .free-keeps-rules in
+    test-broken (at-args .t1) (at-args .key) _ (c .broken .ensures) (and-next _ _ (eq-eqb _ _ (at-loop .inv .0)) ∙ and-not-left _ _ (at-loop .inv .3 ∙ every-not keepsSlot _ (at-loop .i) pastSlot (omega arith) (sym (kept-free (slotIn (at-args .t1) (at-loop .i)) _ (not-true (slotIn (at-args .t1) (at-loop .i) .«is_open») (at-if1 .taken)) (at-free-keeps-rules .ensures)) ∙ not-true _ (c .before .if2 .taken))))
 
 loop-again : tie.Need-loop-again Inv-loop μ-loop Inv-loop3 μ-loop3 Inv-loop2 μ-loop2
 loop-again c =
-    let at-loop = c .before .before .before .before .before .before .before .before .before .before .loop in
-    let at-keeps-rules = c .before .before .before .before .before .before .before .keeps-rules in
-    let at-if1 = c .before .before .before .before .before .before .if1 in
-    let at-args = c .before .before .before .before .before .before .before .before .before .before .before .args in
-    let at-mark-of = c .before .before .before .before .before .mark-of in
-    let at-seen = c .before .before .before .seen in
-    let at-has-key = c .before .before .before .before .has-key in
-    let v = at-loop .inv in (
+    let at-loop = c .before .before .before .before .before .before .loop in
+    let at-args = c .before .before .before .before .before .before .before .args in
+    let at-if1 = c .before .before .before .before .if1 in
+    let at-free-keeps-rules = c .before .before .free-keeps-rules in
+    let v = at-loop .inv in
+    let x = slotIn (at-args .t1) (at-loop .i) in
+    let o : x .«is_open» ≡ false = not-true (x .«is_open») (at-if1 .taken) in
+    let n : at-loop .i < length (at-args .t1) = omega (arith, v .0) in (
+      v .0,
+      v .1,
+      omega arith,
+      v .3 ∙ every-next keepsSlot _ (at-loop .i) pastSlot n (sym (kept-free x _ o (at-free-keeps-rules .ensures)) ∙ not-false _ (c .before .if2 .left)),
+      marked-free (at-args .t1) (at-loop .marks) (at-loop .i) (v .4) o,
+      seen-skip (hasKey (at-args .key)) (at-args .t1) (at-loop .found) (at-loop .i) n (search needs) (v .5) (free-unlike (at-args .key) x o),
+      seen-next isFree (at-args .t1) (at-loop .free) (at-loop .i) n (search needs) (v .6) _ (c .seen .ensures ∙ ap (seenAt (at-loop .free) (at-loop .i)) (sym (no-false _ o))),
+      omega (arith, v .7),
+      v .8 ∙ ap (λ (n : ℕ). at-loop .rows + n) (count-free (at-args .t1) (at-loop .i) pastSlot n o),
+    )
+
+returns-2 : tie.Need-returns-2 Inv-loop μ-loop Inv-loop3 μ-loop3 Inv-loop2 μ-loop2
+unfolding keepsSlots
+returns-2 c =
+    let at-args = c .before .before .before .before .before .before .before .args in
+    let at-loop = c .before .before .before .before .before .before .loop in
+    let at-if1 = c .before .before .before .before .if1 in
+    let at-open-keeps-rules = c .before .before .open-keeps-rules in
+    test-broken (at-args .t1) (at-args .key) _ (c .broken2 .ensures) (and-next _ _ (eq-eqb _ _ (at-loop .inv .0)) ∙ and-not-left _ _ (at-loop .inv .3 ∙ every-not keepsSlot _ (at-loop .i) pastSlot (omega arith) (sym (kept-open (slotIn (at-args .t1) (at-loop .i)) _ (not-false (slotIn (at-args .t1) (at-loop .i) .«is_open») (at-if1 .left)) (at-open-keeps-rules .ensures)) ∙ not-true _ (c .before .if3 .taken))))
+
+loop-again-2 : tie.Need-loop-again-2 Inv-loop μ-loop Inv-loop3 μ-loop3 Inv-loop2 μ-loop2
+loop-again-2 c =
+    let at-loop = c .before .before .before .before .before .before .before .before .before .loop in
+    let at-args = c .before .before .before .before .before .before .before .before .before .before .args in
+    let at-if1 = c .before .before .before .before .before .before .before .if1 in
+    let at-open-keeps-rules = c .before .before .before .before .before .open-keeps-rules in
+    let at-if3 = c .before .before .before .before .if3 in
+    let at-mark = c .before .before .mark in
+    let v = at-loop .inv in
+    let x = slotIn (at-args .t1) (at-loop .i) in
+    let o : x .«is_open» ≡ true = not-false (x .«is_open») (at-if1 .left) in
+    let n : at-loop .i < length (at-args .t1) = omega (arith, v .0) in (
       v .0,
       length-set (at-loop .marks) (at-loop .i) _ ∙ v .1,
       omega arith,
-      v .3 ∙ every-next keepsSlot _ (at-loop .i) pastSlot (omega (arith, v .0)) (sym (at-keeps-rules .ensures) ∙ not-false _ (at-if1 .left)),
-      marked-more (at-args .t1) (at-loop .marks) (at-loop .i) _ (omega (arith, v .1)) (v .4) (at-mark-of .ensures),
-      seen-next (hasKey (at-args .key)) (at-args .t1) (at-loop .found) (at-loop .i) (omega (arith, v .0)) (search needs) (v .5) _ (at-seen .ensures ∙ ap (seenAt (at-loop .found) (at-loop .i)) (at-has-key .ensures)),
-      seen-next isFree (at-args .t1) (at-loop .free) (at-loop .i) (omega (arith, v .0)) (search needs) (v .6) _ (c .before .seen2 .ensures),
-      omega (arith, v .7, c .one .ensures .1),
-      omega (arith, v .8, c .one .ensures .0, count-next (at-args .t1) (at-loop .i) pastSlot (omega (arith, v .0))),
+      v .3 ∙ every-next keepsSlot _ (at-loop .i) pastSlot n (sym (kept-open x _ o (at-open-keeps-rules .ensures)) ∙ not-false _ (at-if3 .left)),
+      marked-more (at-args .t1) (at-loop .marks) (at-loop .i) _ (omega (arith, v .1)) (v .4) (at-mark .ensures),
+      seen-next (hasKey (at-args .key)) (at-args .t1) (at-loop .found) (at-loop .i) n (search needs) (v .5) _ (c .seen2 .ensures ∙ ap (seenAt (at-loop .found) (at-loop .i)) (c .before .has-key .ensures)),
+      seen-skip isFree (at-args .t1) (at-loop .free) (at-loop .i) n (search needs) (v .6) (no-true _ o),
+      omega (arith, v .7),
+      omega (arith, v .8, count-open (at-args .t1) (at-loop .i) pastSlot n o),
     )
 
 loop2-holds : tie.Need-loop2-holds Inv-loop μ-loop Inv-loop3 μ-loop3 Inv-loop2 μ-loop2
@@ -76,47 +109,48 @@ loop2-holds c =
 
 loop3-holds : tie.Need-loop3-holds Inv-loop μ-loop Inv-loop3 μ-loop3 Inv-loop2 μ-loop2
 loop3-holds c =
-    let at-loop2 = c .before .loop2 in
-    (at-loop2 .inv .0, at-loop2 .inv .1, at-loop2 .inv .2, at-loop2 .inv .3, at-loop2 .inv .4, search needs, refl)
+    let at-loop2 = c .before .before .loop2 in
+    let at-args = c .before .before .before .before .before .args in
+    (at-loop2 .inv .0, at-loop2 .inv .1, at-loop2 .inv .2, at-loop2 .inv .3, at-loop2 .inv .4, search needs, twice-from (slotIn (at-args .t1) (at-loop2 .k)) (at-args .t1) (at-loop2 .k) _ (c .behind .ensures))
 
 loop3-again : tie.Need-loop3-again Inv-loop μ-loop Inv-loop3 μ-loop3 Inv-loop2 μ-loop2
 loop3-again c =
     let at-loop3 = c .before .before .loop3 in
-    let at-args = c .before .before .before .before .before .before .before .args in
-    let at-loop2 = c .before .before .before .before .loop2 in
-    let at-loop = c .before .before .before .before .before .before .loop in
+    let at-args = c .before .before .before .before .before .before .before .before .args in
+    let at-loop2 = c .before .before .before .before .before .loop2 in
+    let at-loop = c .before .before .before .before .before .before .before .loop in
     let v = at-loop3 .inv in
-    (v .0, v .1, v .2, v .3, v .4, v .5, v .6 ∙ twice-next (slotIn (at-args .t1) (at-loop2 .k)) (at-args .t1) (at-loop3 .j) (omega (arith, v .0)) (marks-unlike (at-args .t1) (at-loop .marks) (at-loop2 .k) (at-loop3 .j) (v .3) (v .5) (search needs) (c .if2 .taken)))
-
-returns-2 : tie.Need-returns-2 Inv-loop μ-loop Inv-loop3 μ-loop3 Inv-loop2 μ-loop2
-unfolding keepsSlots
-returns-2 c =
-    let at-loop3 = c .before .before .before .before .before .before .before .loop3 in
-    let at-args = c .before .before .before .before .before .before .before .before .before .before .before .before .args in
-    let at-loop2 = c .before .before .before .before .before .before .before .before .before .loop2 in
-    let at-is-alike = c .before .before .is-alike in
-    let v = at-loop3 .inv in
-    test-broken (at-args .t1) (at-args .key) _ (c .broken2 .ensures) (and-next _ _ (eq-eqb _ _ (v .0)) ∙ and-next _ _ (v .2) ∙ v .4 ∙ distinct-not (at-args .t1) (at-loop2 .k) pastSlot (omega (arith, v .0, v .5)) (v .6 ∙ twice-here (slotIn (at-args .t1) (at-loop2 .k)) (at-args .t1) (at-loop3 .j) (omega (arith, v .0)) (sym (at-is-alike .ensures) ∙ c .before .if3 .taken)))
-
-loop3-again-2 : tie.Need-loop3-again-2 Inv-loop μ-loop Inv-loop3 μ-loop3 Inv-loop2 μ-loop2
-loop3-again-2 c =
-    let at-loop3 = c .before .before .before .before .before .before .loop3 in
-    let at-args = c .before .before .before .before .before .before .before .before .before .before .before .args in
-    let at-loop2 = c .before .before .before .before .before .before .before .before .loop2 in
-    let v = at-loop3 .inv in
-    (v .0, v .1, v .2, v .3, v .4, v .5, v .6 ∙ twice-next (slotIn (at-args .t1) (at-loop2 .k)) (at-args .t1) (at-loop3 .j) (omega (arith, v .0)) (sym (c .before .is-alike .ensures) ∙ c .if3 .left))
-
-loop2-again : tie.Need-loop2-again Inv-loop μ-loop Inv-loop3 μ-loop3 Inv-loop2 μ-loop2
-loop2-again c =
-    let at-loop3 = c .before .loop3 in
-    let at-args = c .before .before .before .before .before .before .args in
-    let at-loop2 = c .before .before .before .loop2 in
-    let v = at-loop3 .inv in
-    (v .0, v .1, v .2, v .3, v .4 ∙ distinct-next (at-args .t1) (at-loop2 .k) pastSlot (omega (arith, v .0, v .5)) (v .6 ∙ ap (twice (slotIn (at-args .t1) (at-loop2 .k))) (past (at-args .t1) (at-loop3 .j) (omega (arith, v .0))) ∙ twice-end (slotIn (at-args .t1) (at-loop2 .k))))
+    (v .0, v .1, v .2, v .3, v .4, v .5, v .6 ∙ twice-next (slotIn (at-args .t1) (at-loop2 .k)) (at-args .t1) (at-loop3 .j) (omega (arith, v .0)) (marks-unlike (at-args .t1) (at-loop .marks) (at-loop2 .k) (at-loop3 .j) (v .3) (v .5) (search needs) (c .if4 .taken)))
 
 returns-3 : tie.Need-returns-3 Inv-loop μ-loop Inv-loop3 μ-loop3 Inv-loop2 μ-loop2
 unfolding keepsSlots
 returns-3 c =
+    let at-loop3 = c .before .before .before .before .before .before .before .loop3 in
+    let at-args = c .before .before .before .before .before .before .before .before .before .before .before .before .before .args in
+    let at-loop2 = c .before .before .before .before .before .before .before .before .before .before .loop2 in
+    let at-is-alike = c .before .before .is-alike in
+    let v = at-loop3 .inv in
+    test-broken (at-args .t1) (at-args .key) _ (c .broken3 .ensures) (and-next _ _ (eq-eqb _ _ (v .0)) ∙ and-next _ _ (v .2) ∙ v .4 ∙ distinct-not (at-args .t1) (at-loop2 .k) pastSlot (omega (arith, v .0, v .5)) (v .6 ∙ twice-here (slotIn (at-args .t1) (at-loop2 .k)) (at-args .t1) (at-loop3 .j) (omega (arith, v .0)) (sym (at-is-alike .ensures) ∙ c .before .if5 .taken)))
+
+loop3-again-2 : tie.Need-loop3-again-2 Inv-loop μ-loop Inv-loop3 μ-loop3 Inv-loop2 μ-loop2
+loop3-again-2 c =
+    let at-loop3 = c .before .before .before .before .before .before .loop3 in
+    let at-args = c .before .before .before .before .before .before .before .before .before .before .before .before .args in
+    let at-loop2 = c .before .before .before .before .before .before .before .before .before .loop2 in
+    let v = at-loop3 .inv in
+    (v .0, v .1, v .2, v .3, v .4, v .5, v .6 ∙ twice-next (slotIn (at-args .t1) (at-loop2 .k)) (at-args .t1) (at-loop3 .j) (omega (arith, v .0)) (sym (c .before .is-alike .ensures) ∙ c .if5 .left))
+
+loop2-again : tie.Need-loop2-again Inv-loop μ-loop Inv-loop3 μ-loop3 Inv-loop2 μ-loop2
+loop2-again c =
+    let at-loop3 = c .before .loop3 in
+    let at-args = c .before .before .before .before .before .before .before .args in
+    let at-loop2 = c .before .before .before .before .loop2 in
+    let v = at-loop3 .inv in
+    (v .0, v .1, v .2, v .3, v .4 ∙ distinct-next (at-args .t1) (at-loop2 .k) pastSlot (omega (arith, v .0, v .5)) (v .6 ∙ ap (twice (slotIn (at-args .t1) (at-loop2 .k))) (past (at-args .t1) (at-loop3 .j) (omega (arith, v .0))) ∙ twice-end (slotIn (at-args .t1) (at-loop2 .k))))
+
+returns-4 : tie.Need-returns-4 Inv-loop μ-loop Inv-loop3 μ-loop3 Inv-loop2 μ-loop2
+unfolding keepsSlots
+returns-4 c =
     let at-loop2 = c .before .loop2 in
     let at-loop = c .before .before .before .loop in
     let at-args = c .before .before .before .before .args in
@@ -138,22 +172,33 @@ test-spec =
     loop-holds
     (λ c. search needs)
     (λ c. search needs)
+    (λ c. search needs)
+    (λ c. search needs)
     (λ c κs. search needs)
     (λ c κs. search needs)
     returns
     (λ c κs. search needs)
     (λ c. search needs)
     (λ c. search needs)
-    (λ c κs. search needs)
-    (λ c κs. search needs)
-    (λ c κs. search needs)
-    (λ c κs. search needs)
-    (λ c. search needs)
-    (λ c. search needs)
-    (λ c. search needs)
     loop-again
+    (λ c. search needs)
+    (λ c. search needs)
+    (λ c κs. search needs)
+    (λ c κs. search needs)
+    returns-2
+    (λ c κs. search needs)
+    (λ c. search needs)
+    (λ c. search needs)
+    (λ c κs. search needs)
+    (λ c κs. search needs)
+    (λ c. search needs)
+    (λ c. search needs)
+    (λ c. search needs)
+    loop-again-2
     loop2-holds
     (λ c. search needs)
+    (λ c. search needs)
+    (λ c κs. search needs)
     loop3-holds
     (λ c. search needs)
     (λ c. search needs)
@@ -168,11 +213,11 @@ test-spec =
     (λ c. search needs)
     (λ c κs. search needs)
     (λ c κs. search needs)
-    returns-2
+    returns-3
     (λ c. search needs)
     (λ c. search needs)
     loop3-again-2
     (λ c. search needs)
     (λ c. search needs)
     loop2-again
-    returns-3)
+    returns-4)

@@ -7,6 +7,14 @@ use Rattle.streams.proofs.Lookups.{look-is, not-known, is-known, known-
 use Rattle.streams.proofs.Table.close.Statement.{statement}
 use Rattle.streams.proofs.Table.close.Tie as tie
 
+returns : tie.Need-returns
+returns c =
+    let at-args = c .before .before .before .before .before .before .before .before .before .before .args in
+    let at-name = c .before .before .before .before .before .before .before .name in
+    let at-known = c .before .before .before .known in
+    let at-test = c .before .before .before .before .test in
+    not-known (at-args .t1) (at-name .result) (closeBy (at-args .t1)) (λ n. refl) refl _ (sym (c .before .p .given .1) ∙ at-known .ensures ∙ ap knownTarget (look-is (at-args .t1) (at-name .result) (at-test .result) (at-test .ensures))) ∙ close-by (at-args .t1) _ _ (at-name .result) (at-name .ensures)
+
 mul-if1 : tie.Need-mul-if1
 mul-if1 c =
     let at-args = c .before .before .before .before .before .before .before .before .before .before .args in
@@ -23,8 +31,8 @@ element-copy-out-if1 c =
     let at-test = c .before .before .before .before .test in
     let b = known-bound (at-args .t1) (at-name .result) _ (sym (c .before .p2 .given .1) ∙ at-known .ensures ∙ ap knownTarget (look-is (at-args .t1) (at-name .result) (at-test .result) (at-test .ensures))) in search needs
 
-returns : tie.Need-returns
-returns c =
+returns-2 : tie.Need-returns-2
+returns-2 c =
     let at-args = c .before .before .before .before .before .before .before .before .before .before .before .args in
     let at-name = c .before .before .before .before .before .before .before .before .name in
     let at-p2 = c .before .before .p2 in
@@ -32,8 +40,8 @@ returns c =
     let at-test = c .before .before .before .before .before .test in
     closed-not (at-args .t1) _ (c .if1 .taken) ∙ is-known (at-args .t1) (at-name .result) (closeBy (at-args .t1)) (λ n. refl) refl _ (sym (at-p2 .given .1) ∙ at-known .ensures ∙ ap knownTarget (look-is (at-args .t1) (at-name .result) (at-test .result) (at-test .ensures))) ∙ close-by (at-args .t1) _ _ (at-name .result) (at-name .ensures)
 
-mul-t15 : tie.Need-mul-t15
-mul-t15 c =
+mul-t16 : tie.Need-mul-t16
+mul-t16 c =
     let at-args = c .before .before .before .before .before .before .before .before .before .before .before .before .args in
     let at-name = c .before .before .before .before .before .before .before .before .before .name in
     let at-p2 = c .before .before .before .p2 in
@@ -49,14 +57,6 @@ element-set-from-self c =
     let at-known = c .before .before .before .before .before .known in
     let at-test = c .before .before .before .before .before .before .test in
     let b = known-bound (at-args .t1) (at-name .result) _ (sym (at-p2 .given .1) ∙ at-known .ensures ∙ ap knownTarget (look-is (at-args .t1) (at-name .result) (at-test .result) (at-test .ensures))) in search needs
-
-returns-2 : tie.Need-returns-2
-returns-2 c =
-    let at-args = c .before .before .before .before .before .before .before .before .before .before .args in
-    let at-name = c .before .before .before .before .before .before .before .name in
-    let at-known = c .before .before .before .known in
-    let at-test = c .before .before .before .before .test in
-    not-known (at-args .t1) (at-name .result) (closeBy (at-args .t1)) (λ n. refl) refl _ (sym (c .before .p .given .1) ∙ at-known .ensures ∙ ap knownTarget (look-is (at-args .t1) (at-name .result) (at-test .result) (at-test .ensures))) ∙ close-by (at-args .t1) _ _ (at-name .result) (at-name .ensures)
 
 returns-3 : tie.Need-returns-3
 returns-3 c =
@@ -75,12 +75,12 @@ close-spec =
     (λ c κs. search needs)
     (λ c κs. search needs)
     (λ c. search needs)
+    returns
     (λ c. search needs)
     mul-if1
     element-copy-out-if1
-    returns
-    (λ c κs. search needs)
-    mul-t15
-    element-set-from-self
     returns-2
+    (λ c κs. search needs)
+    mul-t16
+    element-set-from-self
     returns-3)

@@ -10,6 +10,15 @@ use Rattle.streams.proofs.Table.offer.Tie as tie
 long : (c : tie.Start) → length (c .args .t1 .slots) ≡ 32
 long c = search unmapped
 
+returns : tie.Need-returns
+returns c =
+    let at-args = c .before .before .before .before .before .before .before .before .before .before .args in
+    let at-name = c .before .before .before .before .before .before .before .name in
+    let at-start = c .before .before .before .before .before .before .before .before .before .before in
+    let at-known-or-free = c .before .before .before .known-or-free in
+    let at-test = c .before .before .before .before .test in
+    offer-not (at-args .t1) (at-name .result) (at-name .result .key) (record { number = at-args .number; timeout = at-args .timeout; slip = at-args .slip }) (at-args .time) _ (long (at-start)) (sym (c .before .p .given .1) ∙ at-known-or-free .ensures ∙ offer-target (at-args .t1) (at-name .result) (at-test .result) (at-args .number) (at-test .ensures)) ∙ offer-by (at-args .t1) _ _ (at-name .result) (at-name .ensures) (record { number = at-args .number; timeout = at-args .timeout; slip = at-args .slip }) (at-args .time)
+
 mul-for-key : tie.Need-mul-for-key
 mul-for-key c =
     let at-args = c .before .before .before .before .before .before .before .before .before .before .args in
@@ -48,15 +57,6 @@ element-set-from-x c =
     let at-test = c .before .before .before .before .before .before .before .before .before .test in
     let b = offer-at (at-args .t1) (at-name .result) (at-name .result .key) (record { number = at-args .number; timeout = at-args .timeout; slip = at-args .slip }) (at-args .time) _ (long (at-start)) (sym (at-p2 .given .1) ∙ at-known-or-free .ensures ∙ offer-target (at-args .t1) (at-name .result) (at-test .result) (at-args .number) (at-test .ensures)) .0 in search needs
 
-returns : tie.Need-returns
-returns c =
-    let at-args = c .before .before .before .before .before .before .before .before .before .before .args in
-    let at-name = c .before .before .before .before .before .before .before .name in
-    let at-start = c .before .before .before .before .before .before .before .before .before .before in
-    let at-known-or-free = c .before .before .before .known-or-free in
-    let at-test = c .before .before .before .before .test in
-    offer-not (at-args .t1) (at-name .result) (at-name .result .key) (record { number = at-args .number; timeout = at-args .timeout; slip = at-args .slip }) (at-args .time) _ (long (at-start)) (sym (c .before .p .given .1) ∙ at-known-or-free .ensures ∙ offer-target (at-args .t1) (at-name .result) (at-test .result) (at-args .number) (at-test .ensures)) ∙ offer-by (at-args .t1) _ _ (at-name .result) (at-name .ensures) (record { number = at-args .number; timeout = at-args .timeout; slip = at-args .slip }) (at-args .time)
-
 returns-2 : tie.Need-returns-2
 returns-2 c =
     let at-args = c .before .before .before .before .before .before .before .before .before .before .before .before .before .before .before .args in
@@ -76,6 +76,7 @@ offer-spec =
     (λ c κs. search needs)
     (λ c κs. search needs)
     (λ c. search needs)
+    returns
     (λ c. search needs)
     mul-for-key
     element-copy-out-for-key
@@ -83,5 +84,4 @@ offer-spec =
     (λ c κs. search needs)
     mul-x
     element-set-from-x
-    returns
     returns-2)

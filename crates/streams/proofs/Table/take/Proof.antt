@@ -7,6 +7,14 @@ use Rattle.streams.proofs.Lookups.{look-is, not-known, is-known, known-
 use Rattle.streams.proofs.Table.take.Statement.{statement}
 use Rattle.streams.proofs.Table.take.Tie as tie
 
+returns : tie.Need-returns
+returns c =
+    let at-args = c .before .before .before .before .before .before .before .before .before .before .args in
+    let at-name = c .before .before .before .before .before .before .before .name in
+    let at-known = c .before .before .before .known in
+    let at-test = c .before .before .before .before .test in
+    not-known (at-args .t1) (at-name .result) (takeBy (at-args .t1) (at-args .time)) (λ n. refl) refl _ (sym (c .before .p .given .1) ∙ at-known .ensures ∙ ap knownTarget (look-is (at-args .t1) (at-name .result) (at-test .result) (at-test .ensures))) ∙ take-by (at-args .t1) _ _ (at-name .result) (at-name .ensures) (at-args .time)
+
 mul-x : tie.Need-mul-x
 mul-x c =
     let at-args = c .before .before .before .before .before .before .before .before .before .before .args in
@@ -41,14 +49,6 @@ element-set-from-x c =
     let at-test = c .before .before .before .before .before .before .before .before .test in
     let b = known-bound (at-args .t1) (at-name .result) _ (sym (at-p2 .given .1) ∙ at-known .ensures ∙ ap knownTarget (look-is (at-args .t1) (at-name .result) (at-test .result) (at-test .ensures))) in search needs
 
-returns : tie.Need-returns
-returns c =
-    let at-args = c .before .before .before .before .before .before .before .before .before .before .args in
-    let at-name = c .before .before .before .before .before .before .before .name in
-    let at-known = c .before .before .before .known in
-    let at-test = c .before .before .before .before .test in
-    not-known (at-args .t1) (at-name .result) (takeBy (at-args .t1) (at-args .time)) (λ n. refl) refl _ (sym (c .before .p .given .1) ∙ at-known .ensures ∙ ap knownTarget (look-is (at-args .t1) (at-name .result) (at-test .result) (at-test .ensures))) ∙ take-by (at-args .t1) _ _ (at-name .result) (at-name .ensures) (at-args .time)
-
 returns-2 : tie.Need-returns-2
 returns-2 c =
     let at-args = c .before .before .before .before .before .before .before .before .before .before .before .before .before .before .args in
@@ -66,11 +66,11 @@ take-spec =
     (λ c κs. search needs)
     (λ c κs. search needs)
     (λ c. search needs)
+    returns
     (λ c. search needs)
     mul-x
     element-copy-out-x
     (λ c κs. search needs)
     mul-x-2
     element-set-from-x
-    returns
     returns-2)
