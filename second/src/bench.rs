@@ -239,15 +239,12 @@ impl Bench {
     }
     fn feed(&mut self, piece: &[u8]) -> Answer {
         let session = self.session.as_mut()?;
-        if session.closed() {
-            return Some("refused 22".into());
-        }
-        if self.lent.0 < 4096 || self.lent.1 < 24 {
-            return Some("refused 5".into());
-        }
-        let (used, event, reply) = session.feed(piece, &mut self.payload);
-        self.reply[..reply.len()].copy_from_slice(&reply);
-        let event = match event {
+        let step = match session.feed(piece, &mut self.payload[..self.lent.0], &mut self.reply[..self.lent.1]) {
+            Ok(step) => step,
+            Err(n) => return Some(format!("refused {n}")),
+        };
+        let reply = &self.reply[..step.written];
+        let event = match step.event {
             Event::Nothing => "nothing".into(),
             Event::Offer(m) => format!("offer {}", line_fields(&m)),
             Event::Message(m) => {
@@ -256,7 +253,7 @@ impl Bench {
             }
             Event::End(n) => format!("end {n}"),
         };
-        Some(format!("used {used} {event} reply {}", escape(&reply)))
+        Some(format!("used {} {event} reply {}", step.used, escape(reply)))
     }
 }
 

@@ -23,8 +23,7 @@ extern "C" {
     fn job_redatagram(bytes: *const u8, len: usize, out: *mut u8, room: usize) -> usize;
     fn job_calls(image: *const u8, len: usize, stream: *const u8, stream_len: usize, first: u32, rounds: u32) -> usize;
     fn job_image(bytes: *const u8, len: usize, out: *mut u8, room: usize) -> usize;
-    fn job_session(offer: *const u8, offer_len: usize, data: *const u8, data_len: usize, bytes: *const u8, len: usize) -> usize;
-    fn job_bytes(bytes: *const u8, len: usize, payload: *mut u8, reply: *mut u8) -> usize;
+    fn job_session(bytes: *const u8, len: usize, size: usize, payload: *mut u8, reply: *mut u8) -> usize;
 }
 
 /// One run of a job, in seconds for each time that it is done.
@@ -157,33 +156,28 @@ fn table() {
     row("an image of 32 full rows, loaded and saved", 20, || unsafe { job_image(full.as_ptr(), full.len(), out.as_mut_ptr(), 16384) }, again);
 }
 
+/// A host's loop: pieces of at most `size` bytes, and what a call left unused is offered again. The first byte of the last reply.
+fn converse(mut bytes: &[u8], size: usize, payload: &mut [u8], reply: &mut [u8]) -> usize {
+    let mut s = session::Session::open();
+    while !bytes.is_empty() {
+        let Ok(step) = black_box(s.feed(&bytes[..size.min(bytes.len())], payload, reply)) else { return 0 };
+        bytes = &bytes[step.used..];
+    }
+    usize::from(reply[0])
+}
+
 fn sessions() {
     for (name, n, times) in [("a message of 40 bytes in a session", 40, 500), ("a message of 4,096 bytes in a session", 4096, 200)] {
         let payload = filled(n);
         let id = hash::message_id(None, &payload);
-        let offer = format!("ihave {id:07x} len={n} fmt=p dst=mail@G0RCV\n").into_bytes();
-        let data = format!("data {id:07x}\n").into_bytes();
-        let proved = || unsafe { job_session(offer.as_ptr(), offer.len(), data.as_ptr(), data.len(), payload.as_ptr(), payload.len()) };
-        let plain = || {
-            let mut buffer = [0u8; 4096];
-            let mut s = session::Session::open();
-            s.feed(&offer, &mut buffer);
-            s.feed(&data, &mut buffer);
-            s.feed(&payload, &mut buffer).2.len()
-        };
-        row(name, times, proved, plain);
-        let whole = [offer.as_slice(), &data, &payload].concat();
-        let (mut buffer, mut reply) = ([0u8; 4096], [0u8; 24]);
-        let proved = || unsafe { job_bytes(whole.as_ptr(), whole.len(), buffer.as_mut_ptr(), reply.as_mut_ptr()) };
-        let plain = || {
-            let mut buffer = [0u8; 4096];
-            let mut s = session::Session::open();
-            for byte in whole.chunks(1) {
-                black_box(s.feed(byte, &mut buffer));
-            }
-            0
-        };
-        row(&format!("{name}, byte by byte"), times / 10, proved, plain);
+        let mut bytes = format!("ihave {id:07x} len={n} fmt=p dst=mail@G0RCV\ndata {id:07x}\n").into_bytes();
+        bytes.extend(&payload);
+        for (how, size, times) in [("", 8192, times), (", byte by byte", 1, times / 10)] {
+            let (mut buffer, mut reply) = ([0u8; 4096], [0u8; 24]);
+            let proved = || unsafe { job_session(bytes.as_ptr(), bytes.len(), size, buffer.as_mut_ptr(), reply.as_mut_ptr()) };
+            let (mut buffer, mut reply) = ([0u8; 4096], [0u8; 24]);
+            row(&format!("{name}{how}"), times, proved, || converse(&bytes, size, &mut buffer, &mut reply));
+        }
     }
 }
 

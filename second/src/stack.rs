@@ -11,7 +11,7 @@ extern "C" {
     fn job_reline(bytes: *const u8, len: usize, out: *mut u8, room: usize) -> usize;
     fn job_datagram(bytes: *const u8, len: usize) -> usize;
     fn job_redatagram(bytes: *const u8, len: usize, out: *mut u8, room: usize) -> usize;
-    fn job_bytes(bytes: *const u8, len: usize, payload: *mut u8, reply: *mut u8) -> usize;
+    fn job_session(bytes: *const u8, len: usize, size: usize, payload: *mut u8, reply: *mut u8) -> usize;
     fn stack_new() -> usize;
     fn stack_offer() -> usize;
     fn stack_take() -> usize;
@@ -75,7 +75,7 @@ pub fn print() {
         measure("read_datagram", || { black_box(job_datagram(datagram.as_ptr(), datagram.len())); });
         measure("read_datagram, then write_datagram", || { black_box(job_redatagram(datagram.as_ptr(), datagram.len(), out.as_mut_ptr(), 16384)); });
         measure("open_session", || { black_box(stack_open(reply.as_mut_ptr(), 24)); });
-        measure("feed", || { black_box(job_bytes(peer.as_ptr(), peer.len(), payload.as_mut_ptr(), reply.as_mut_ptr())); });
+        measure("feed", || { black_box(job_session(peer.as_ptr(), peer.len(), 1, payload.as_mut_ptr(), reply.as_mut_ptr())); });
         measure("Table::new, open_rows", || { black_box(stack_new()); });
         measure("offer", || { black_box(stack_offer()); });
         measure("offer, then take", || { black_box(stack_take()); });

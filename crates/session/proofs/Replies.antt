@@ -6,25 +6,27 @@ use mathlib.Core.Bool.{Bool, true, false}
 use mathlib.Core.List.{List, [], _∷_, _++_}
 use lib.ListN.{length, drop, length-append}
 use borrow.Author.Tests.{le-leb}
-use Rattle.octets.specs.Words.{if_then_else_, _and_, _=?_}
+use Rattle.octets.specs.Words.{if_then_else_, _and_, _<?_, _=?_}
 use Rattle.octets.specs.Bytes.{front, placed}
 use Rattle.octets.proofs.Tests.{if-yes, and-left, inside-high}
 use Rattle.octets.proofs.Lists.{placed-in}
 use Rattle.text.specs.Hex.{hexDigits}
 use Rattle.text.proofs.Numerals.{length-digits}
 use Rattle.sha1.specs.declared.Sha1.{Sha1}
-use Rattle.sha1.specs.Machine.{finished}
+use Rattle.sha1.specs.Machine.{fed, finished}
 use Rattle.sha1.specs.Id.{idNumber}
 use Rattle.line.specs.declared.Line.{Line}
 use Rattle.line.specs.Reading.{Reading, readOf}
 use Rattle.phrases.specs.declared.Kind.{Kind}
 use Rattle.phrases.specs.Lines.{kindOf, isData}
 use Rattle.replies.specs.Replies.{LF, prompt, 'error', errorToken, tokenGood, sends, errs, acks, bads, wrote}
+use Rattle.machine.specs.Machine.{Fed, quiet, stop, after, run}
 use Rattle.talk.specs.declared.Terms.{Terms}
 use Rattle.talk.specs.declared.Session.{Session}
-use Rattle.talk.specs.declared.Stop.{Stop}
-use Rattle.talk.specs.Sessions.{keepsTerms, salted}
-use Rattle.talk.specs.Talk.{Turn, offered, completed, heardAs, heard, dataHeard, turnAt}
+use Rattle.talk.specs.Answer.{Happening}
+use Rattle.talk.specs.Sessions.{keepsTerms, salted, lineSoFar}
+use Rattle.talk.specs.Talk.{Turn, nothing, offered, completed, heardAs, heard, dataHeard}
+use Rattle.session.specs.Feed.{feed}
 
 -- a reply that fits
 pub at-front : (w l : List ℕ) → length w ≤ length l → (wrote w l ≡ length w) × (placed w 0 l ≡ front w l)
@@ -81,9 +83,29 @@ heard-short Kind.Leave s = omega arith
 heard-short Kind.Ask s = omega arith
 heard-short Kind.Other s = omega arith
 
-pub turn-short : (x : Stop) (s : Session) (text : List ℕ) → length (turnAt x s text .reply) ≤ 24
-unfolding heard
-turn-short Stop.Quiet s text = omega arith
-turn-short Stop.Line s text = by-test (s .mode =? 0) _ _ (heard-short (kindOf text) text) (data-short (s .terms) text)
-turn-short Stop.Payload s text = completed-short (s .terms) (s .hash)
-turn-short Stop.Overlong s text = omega arith
+-- a byte's reply, and a call's
+
+abbrev FedShort : Fed Session Happening → Type 0
+FedShort (quiet s) = Unit {0}
+FedShort (stop s w e) = length w ≤ 24
+
+by-fed : (b : Bool) (x y : Fed Session Happening) → FedShort x → FedShort y → FedShort (if b then x else y)
+by-fed true x y p q = p
+by-fed false x y p q = q
+
+fed-short : (s : Session) (b : ℕ) → FedShort (feed s b)
+unfolding feed heard
+fed-short s b =
+    by-fed (s .mode =? 2) _ _
+    (by-fed (s .got + 1 <? s .terms .len) _ _ tt (completed-short (s .terms) (fed (s .hash) b)))
+    (by-fed (s .mode =? 3) _ _ tt
+    (by-fed (b =? 10) _ _ (by-test (s .mode =? 0) _ _ (heard-short (kindOf (lineSoFar s)) (lineSoFar s)) (data-short (s .terms) (lineSoFar s)))
+    (by-fed (s .«line_len» <? 512) _ _ tt (omega arith))))
+
+pub run-short : (bs : List ℕ) (k : ℕ) (s : Session) → length (run feed nothing k s bs .reply) ≤ 24
+run-short [] k s = omega arith
+run-short (b ∷ bs) k s = go (feed s b) (fed-short s b) (λ t. run-short bs (k + 1) t)
+  where
+    go : (f : Fed Session Happening) → FedShort f → ((t : Session) → length (run feed nothing (k + 1) t bs .reply) ≤ 24) → length (after f k (λ t. run feed nothing (k + 1) t bs) .reply) ≤ 24
+    go (quiet t) p ih = ih t
+    go (stop t w e) p ih = p

@@ -4,37 +4,46 @@ use Prim.Native.Nat.{ℕ, _+_, _-_, _≤_, _<_}
 use native.Mathlib.Omega.{arith}
 use native.Mathlib.Decide.{decLe}
 use mathlib.Core.List.{List, [], _++_}
-use lib.ListN.{length, take, drop, getD, take-append-drop}
+use lib.ListN.{length, take, drop, getD, replicate, take-append-drop}
 use lib.Seq.{length-take-le, take-all}
+use borrow.Author.Tests.{eq-eqb, ne-eqb}
 use Rattle.octets.specs.Bytes.{placed}
+use Rattle.octets.proofs.Tests.{if-yes, if-no}
 use Rattle.sha1.specs.declared.Sha1.{Sha1}
 use Rattle.sha1.specs.Machine.{fedAll}
 use Rattle.tokens.specs.Cuts.{before}
+use Rattle.line.specs.Reading.{blankLine}
+use Rattle.replies.specs.Replies.{wrote}
 use Rattle.replies.proofs.Joins.{silent}
 use Rattle.machine.specs.Machine.{Out, run}
+use Rattle.talk.specs.declared.Event.{Event}
 use Rattle.talk.specs.declared.Session.{Session}
-use Rattle.talk.specs.declared.Stop.{Stop}
-use Rattle.talk.specs.Answer.{Happening, Telling}
-use Rattle.talk.specs.Talk.{nothing, completed, toldIn}
-use Rattle.session.specs.declared.Intake.{Intake}
+use Rattle.talk.specs.Answer.{Happening, Telling, happened}
+use Rattle.talk.specs.Sessions.{lineSoFar}
+use Rattle.talk.specs.Talk.{Turn, nothing, closing, completed, heard, dataHeard, lineHeard, toldIn}
 use Rattle.session.specs.Answer as answer
 use Rattle.session.specs.Feed.{feed}
-use Rattle.session.specs.Calls.{refused}
-use Rattle.session.specs.Runs.{turnOf, outOf, spoken}
+use Rattle.session.specs.Runs.{silence, tellingOf, still, outOf, Spoken}
 use Rattle.session.proofs.Runs.{run-line, run-long, run-obey, run-end, before-within, before-stops, grown, received, run-payload, run-whole}
 
 -- ---- the records
 
-pub told-as : (a : answer.Answer) (t : Intake) (reply after : List ℕ) (x : Telling) → (x ≡ toldIn (turnOf t) reply) × (after ≡ placed (turnOf t .reply) 0 reply)
-    → (_≡_ {A = answer.Record} (record { answer = a; used = t .used; happening = x .happening; written = x .written; next = x .next }) (spoken a t reply)) × (after ≡ placed (turnOf t .reply) 0 reply)
-told-as a t reply after x k = (ap {B = answer.Record} (λ (y : Telling). record { answer = a; used = t .used; happening = y .happening; written = y .written; next = y .next }) (k .0), k .1)
+spoken-by : (o q : Out Session Happening) (r : answer.Record) (reply after : List ℕ) → o ≡ q → Spoken q r reply after → Spoken o r reply after
+spoken-by o q r reply after e k = (
+  k .0 ∙ ap {B = answer.Record} (λ (y : Out Session Happening). record { answer = answer.made; used = y .used; happening = y .happened; written = wrote (y .reply) reply; next = y .state }) (sym e),
+  k .1 ∙ ap (λ (y : Out Session Happening). placed (y .reply) 0 reply) (sym e),
+)
 
--- a refusal says nothing
-pub refused-as : (s : Session) (n : ℕ) (reply after : List ℕ) (r : answer.Record)
-    → (r ≡ spoken (answer.refused n) (record { used = 0; stop = Stop.Quiet; session = s }) reply) × (after ≡ placed [] 0 reply) → (r ≡ refused s [] n .stepRecord) × (after ≡ reply)
-refused-as s n reply after r k =
+-- nothing is said
+pub silent-as : (o : Out Session Happening) (n : ℕ) (e : Event) (x y : Session) (r : answer.Record) (reply : List ℕ) → o ≡ record { used = n; state = y; reply = []; happened = record { what = happened e; line = blankLine } } → x ≡ y → r ≡ silence answer.made n e x → Spoken o r reply reply
+silent-as o n e x y r reply p q k =
     let w = silent reply in
-    (k .0 ∙ (λ i. record { answer = answer.refused n; used = 0; happening = nothing; written = sym (w .0) i; next = s }), k .1 ∙ sym (w .1))
+    spoken-by o _ r reply reply p
+    (k ∙ (λ i. record { answer = answer.made; used = n; happening = record { what = happened e; line = blankLine }; written = w .0 i; next = q i }), w .1)
+
+-- a turn is told
+pub told-as : (o : Out Session Happening) (n : ℕ) (t : Turn) (x : Telling) (r : answer.Record) (reply after : List ℕ) → o ≡ outOf n t → (x ≡ toldIn t reply) × (after ≡ placed (t .reply) 0 reply) → r ≡ tellingOf n x → Spoken o r reply after
+told-as o n t x r reply after p k e = spoken-by o (outOf n t) r reply after p (e ∙ ap (tellingOf n) (k .0), k .1)
 
 -- ---- a line
 
@@ -57,21 +66,31 @@ module _ (s : Session) (piece part line : List ℕ) (m : s .mode ≤ 1) (long : 
   within : length part ≤ length piece
   within = omega (arith, before-within piece, ap length p)
 
-  -- all of the piece was quiet; an LF: the line is whole
-  pub line-quiet : s .«line_len» + length part ≤ 512 → length part ≡ length piece → run feed nothing 0 s piece ≡ outOf (record { used = length part; stop = Stop.Quiet; session = held })
+  -- all of the piece was quiet
+  pub line-quiet : s .«line_len» + length part ≤ 512 → length part ≡ length piece → run feed nothing 0 s piece ≡ outOf (length part) (still held)
   line-quiet h e = gathered h ∙ run-end piece (length part) held (omega arith)
 
-  pub line-whole : s .«line_len» + length part ≤ 512 → (length part ≡ length piece → ⊥) → run feed nothing 0 s piece ≡ outOf (record { used = length part + 1; stop = Stop.Line; session = held })
-  line-whole h e =
-      let d : length part < length piece = omega (arith, within) in
-      gathered h ∙ run-obey piece (length part) held d m (ap (λ (w : List ℕ). getD piece (length w) 0) p ∙ before-stops piece (omega (arith, ap length p)))
+  -- an LF: the line is whole, between messages or after `send`
+  module _ (h : s .«line_len» + length part ≤ 512) (e : length part ≡ length piece → ⊥) (text : List ℕ) (t : text ≡ lineSoFar held) where
+    whole : run feed nothing 0 s piece ≡ outOf (length part + 1) (lineHeard held text)
+    whole =
+        let d : length part < length piece = omega (arith, within) in
+        gathered h
+        ∙ run-obey piece (length part) held d m (ap (λ (w : List ℕ). getD piece (length w) 0) p ∙ before-stops piece (omega (arith, ap length p)))
+        ∙ ap (λ (w : List ℕ). outOf (length part + 1) (lineHeard held w)) (sym t)
+
+    pub line-first : s .mode ≡ 0 → run feed nothing 0 s piece ≡ outOf (length part + 1) (heard text)
+    line-first z = whole ∙ ap (outOf (length part + 1)) (if-yes _ _ _ (eq-eqb (s .mode) 0 z))
+
+    pub line-data : (s .mode ≡ 0 → ⊥) → run feed nothing 0 s piece ≡ outOf (length part + 1) (dataHeard (s .terms) text)
+    line-data z = whole ∙ ap (outOf (length part + 1)) (if-no _ _ _ (ne-eqb (s .mode) 0 z))
 
 -- a 513th byte
 pub line-long : (s : Session) (piece part : List ℕ) → s .mode ≤ 1 → s .«line_len» ≤ 512 → part ≡ before 10 piece → 512 - s .«line_len» < length part
-    → run feed nothing 0 s piece ≡ outOf (record { used = 512 - s .«line_len» + 1; stop = Stop.Overlong; session = s })
+    → run feed nothing 0 s piece ≡ outOf (512 - s .«line_len» + 1) (closing [] 1)
 line-long s piece part m l p h =
     let z : 0 + (512 - s .«line_len» + 1) ≡ 512 - s .«line_len» + 1 = omega arith in
-    run-long piece 0 s m l (omega (arith, ap length p)) ∙ (λ i. record { used = z i; state = outOf (record { used = 0; stop = Stop.Overlong; session = s }) .state; reply = []; happened = outOf (record { used = 0; stop = Stop.Overlong; session = s }) .happened })
+    run-long piece 0 s m l (omega (arith, ap length p)) ∙ (λ i. outOf (z i) (closing [] 1))
 
 -- ---- a payload
 
@@ -90,33 +109,43 @@ taken-some n piece h = go (decLe n (length piece))
     go (yes e) = length-take-le n piece e
     go (no e) = absurd (omega (arith, ap length (take-all n piece (omega arith))))
 
-module _ (s : Session) (piece part pl pl₁ : List ℕ) (h : Sha1) (left : ℕ) (m : s .mode ≡ 2) (g : s .got < s .terms .len) (l : left ≡ s .terms .len - s .got) (p : part ≡ take left piece)
-    (q : pl₁ ≡ placed part (s .got) pl) (d : h ≡ fedAll (s .hash) part) where
-  abbrev next : Session
-  next = record { mode = s .mode; «line_len» = s .«line_len»; line = s .line; terms = s .terms; got = s .got + length part; hash = h }
+module _ (s : Session) (piece part pl pl₁ : List ℕ) (h : Sha1) (left : ℕ) (m : s .mode ≡ 2) (none : s .«line_len» ≡ 0) (zeros : s .line ≡ replicate 512 0) (g : s .got < s .terms .len) (l : left ≡ s .terms .len - s .got)
+    (p : part ≡ take left piece) (q : pl₁ ≡ placed part (s .got) pl) (d : h ≡ fedAll (s .hash) part) where
+  -- the session that the code has
+  abbrev pub next : Session
+  next = record { mode = 2; «line_len» = 0; line = replicate 512 0; terms = s .terms; got = s .got + length part; hash = h }
 
   next-is : next ≡ received s part
-  next-is = λ i. record { mode = s .mode; «line_len» = s .«line_len»; line = s .line; terms = s .terms; got = s .got + length part; hash = d i }
+  next-is = λ i. record { mode = sym m i; «line_len» = sym none i; line = sym zeros i; terms = s .terms; got = s .got + length part; hash = d i }
 
-  stored-as : part ≡ take (length part) piece → pl₁ ≡ placed (take (length part) piece) (s .got) pl
-  stored-as e = q ∙ ap (λ (w : List ℕ). placed w (s .got) pl) e
+  stored-as : (o : Out Session Happening) (t : Turn) → o ≡ outOf (length part) t → part ≡ take (length part) piece → pl₁ ≡ placed (take (o .used) piece) (s .got) pl
+  stored-as o t k e = q ∙ ap (λ (w : List ℕ). placed w (s .got) pl) e ∙ ap (λ (y : Out Session Happening). placed (take (y .used) piece) (s .got) pl) (sym k)
 
-  pub payload-part : length part < left → (run feed nothing 0 s piece ≡ outOf (record { used = length part; stop = Stop.Quiet; session = next })) × (pl₁ ≡ placed (take (length part) piece) (s .got) pl)
-  payload-part k =
-      let e : part ≡ piece = p ∙ taken-all left piece (omega (arith, ap length p)) in
-      let z : 0 + length part ≡ length part = omega arith in (
-        ap (run feed nothing 0 s) (sym e) ∙ run-payload part 0 s m (omega arith) ∙ (λ i. record { used = z i; state = sym next-is i; reply = []; happened = nothing }),
-        stored-as (e ∙ sym (take-all (length part) piece (omega (arith, ap length e)))),
-      )
+  -- more is still to come
+  module _ (k : length part < left) where
+    all : part ≡ piece
+    all = p ∙ taken-all left piece (omega (arith, ap length p))
 
-  pub payload-whole : left ≤ length part → (run feed nothing 0 s piece ≡ outOf (record { used = length part; stop = Stop.Payload; session = next })) × (pl₁ ≡ placed (take (length part) piece) (s .got) pl)
-  payload-whole k =
-      let n : length part ≡ left = ap length p ∙ taken-some left piece (omega (arith, ap length p)) in
-      let z : 0 + length part ≡ length part = omega arith in
-      let t = completed (s .terms) h in (
+    pub payload-part : run feed nothing 0 s piece ≡ outOf (length part) (still next)
+    payload-part =
+        let z : 0 + length part ≡ length part = omega arith in
+        ap (run feed nothing 0 s) (sym all) ∙ run-payload part 0 s m (omega arith) ∙ (λ i. record { used = z i; state = sym next-is i; reply = []; happened = nothing })
+
+    pub part-stored : pl₁ ≡ placed (take (run feed nothing 0 s piece .used) piece) (s .got) pl
+    part-stored = stored-as _ (still next) payload-part (all ∙ sym (take-all (length part) piece (omega (arith, ap length all))))
+
+  -- the payload is whole
+  module _ (k : left ≤ length part) where
+    count : length part ≡ left
+    count = ap length p ∙ taken-some left piece (omega (arith, ap length p))
+
+    pub payload-whole : run feed nothing 0 s piece ≡ outOf (length part) (completed (s .terms) h)
+    payload-whole =
+        let z : 0 + length part ≡ length part = omega arith in
         ap (run feed nothing 0 s) (sym (take-append-drop left piece) ∙ ap (λ (w : List ℕ). w ++ drop left piece) (sym p))
-            ∙ run-whole part (drop left piece) 0 s m g (omega arith)
-            ∙ ap (λ (x : Sha1). let u = completed (s .terms) x in record { used = 0 + length part; state = u .next; reply = u .reply; happened = u .happening }) (sym d)
-            ∙ (λ i. record { used = z i; state = t .next; reply = t .reply; happened = t .happening }),
-        stored-as (p ∙ ap (λ (j : ℕ). take j piece) (sym n)),
-      )
+        ∙ run-whole part (drop left piece) 0 s m g (omega (arith, count))
+        ∙ ap (λ (x : Sha1). outOf (0 + length part) (completed (s .terms) x)) (sym d)
+        ∙ (λ i. outOf (z i) (completed (s .terms) h))
+
+    pub whole-stored : pl₁ ≡ placed (take (run feed nothing 0 s piece .used) piece) (s .got) pl
+    whole-stored = stored-as _ (completed (s .terms) h) payload-whole (p ∙ ap (λ (j : ℕ). take j piece) (sym count))

@@ -13,16 +13,15 @@ use Rattle.refusals.specs.Numbers.{bufferTooShort, longestPayload}
 use Rattle.replies.specs.Replies.{prompt, wrote}
 use Rattle.machine.specs.Machine.{run}
 use Rattle.talk.specs.declared.Session.{Session}
-use Rattle.talk.specs.Sessions.{lineSoFar, listening, closed}
+use Rattle.talk.specs.Sessions.{listening, closed}
 use Rattle.talk.specs.Talk.{nothing}
 use Rattle.session.specs.Answer as answer
 use Rattle.session.specs.Feed.{feed}
 use Rattle.session_rules.specs.Rules.{keepsSession, longestReply, stepRefusal}
 use Rattle.session_rules.proofs.Tests.{long-enough, number-none, Passed}
 use Rattle.session.specs.Calls.{Outcome, refused, made, stored, went, stepOf, openOf, openReply}
-use Rattle.session.specs.declared.Intake.{Intake}
-use Rattle.session.specs.Runs.{turnOf, outOf, spoken}
-use Rattle.session.proofs.Replies.{at-front, turn-short}
+use Rattle.session.specs.Runs.{Spoken}
+use Rattle.session.proofs.Replies.{at-front, run-short}
 
 -- ---- the call's refusals
 
@@ -48,15 +47,16 @@ refusal s piece pl reply after r n e h k =
     comes-as (refused s pl n) (stepOf s piece pl (length reply)) r pl reply after
     (if-no _ _ _ (ne-eqb (stepRefusal s (length pl) (length reply)) 0 (λ (z : stepRefusal s (length pl) (length reply) ≡ 0). omega (arith, z, e, h))) ∙ ap (refused s pl) (sym e)) (k .0, refl, k .1)
 
--- the piece was taken in, and what is due was said
-pub goes : (s : Session) (piece pl pl₁ reply after : List ℕ) (t : Intake) (r : answer.Record) → Passed s (length pl) (length reply) → run feed nothing 0 s piece ≡ outOf t
-    → pl₁ ≡ stored s (take (t .used) piece) pl → (r ≡ spoken answer.made t reply) × (after ≡ placed (turnOf t .reply) 0 reply) → Comes (stepOf s piece pl (length reply)) r pl₁ reply after
-goes s piece pl pl₁ reply after t r g e p k =
+-- what feeding the piece comes to was said
+pub goes : (s : Session) (piece pl pl₁ reply after : List ℕ) (r : answer.Record) → Passed s (length pl) (length reply) → pl₁ ≡ stored s (take (run feed nothing 0 s piece .used) piece) pl
+    → Spoken (run feed nothing 0 s piece) r reply after → Comes (stepOf s piece pl (length reply)) r pl₁ reply after
+goes s piece pl pl₁ reply after r g p k =
+    let o = run feed nothing 0 s piece in
     let room = long-enough (length pl) (length reply) (g .long) in
-    let w = at-front (turnOf t .reply) reply (omega (arith, room .1, turn-short (t .stop) (t .session) (lineSoFar (t .session)))) in
-    comes-as (went s piece pl (outOf t)) (stepOf s piece pl (length reply)) r pl₁ reply after
-    (step-goes s piece pl (length reply) (g .kept) (g .going) (g .long) ∙ ap (went s piece pl) e)
-    (k .0 ∙ (λ i. record { answer = answer.made; used = t .used; happening = turnOf t .happening; written = w .0 i; next = turnOf t .next }), p, k .1 ∙ w .1)
+    let w = at-front (o .reply) reply (omega (arith, room .1, run-short piece 0 s)) in
+    comes-as (went s piece pl o) (stepOf s piece pl (length reply)) r pl₁ reply after
+    (step-goes s piece pl (length reply) (g .kept) (g .going) (g .long))
+    (k .0 ∙ (λ i. record { answer = answer.made; used = o .used; happening = o .happened; written = w .0 i; next = o .state }), p, k .1 ∙ w .1)
 
 -- while a payload comes the bytes used are stored, else none is
 pub stores : (s : Session) (bytes pl pl₁ : List ℕ) → s .mode ≡ 2 → pl₁ ≡ placed bytes (s .got) pl → pl₁ ≡ stored s bytes pl

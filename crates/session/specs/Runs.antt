@@ -1,21 +1,36 @@
 -- What the private functions promise one another. No public promise cites this file.
+use mathlib.Core.Path.{_≡_}
 use Prim.Native.Nat.{ℕ}
-use mathlib.Core.List.{List}
+use mathlib.Core.List.{List, []}
+use Rattle.octets.specs.Bytes.{placed}
+use Rattle.line.specs.Reading.{blankLine}
 use Rattle.replies.specs.Replies.{wrote}
 use Rattle.machine.specs.Machine.{Out}
+use Rattle.talk.specs.declared.Event.{Event}
+use Rattle.talk.specs.declared.Said.{Said}
 use Rattle.talk.specs.declared.Session.{Session}
-use Rattle.talk.specs.Answer.{Happening}
-use Rattle.talk.specs.Sessions.{lineSoFar}
-use Rattle.talk.specs.Talk.{Turn, turnAt}
-use Rattle.session.specs.declared.Intake.{Intake}
+use Rattle.talk.specs.Answer.{Happening, Telling, happened}
+use Rattle.talk.specs.Answer as talk
+use Rattle.talk.specs.Talk.{Turn, nothing}
 use Rattle.session.specs.Answer as answer
 
--- what the bytes taken in lead to: the turn, what feeding them comes to, and the step's record
-abbrev pub turnOf : Intake → Turn
-turnOf t = turnAt (t .stop) (t .session) (lineSoFar (t .session))
+-- the record of a step in which nothing was said, and of one in which it was
+abbrev pub silence : answer.Answer → ℕ → Event → Session → answer.Record
+silence a n e s = record { answer = a; used = n; happening = record { what = happened e; line = blankLine }; written = 0; next = s }
 
-abbrev pub outOf : Intake → Out Session Happening
-outOf t = record { used = t .used; state = turnOf t .next; reply = turnOf t .reply; happened = turnOf t .happening }
+abbrev pub tellingOf : ℕ → Telling → answer.Record
+tellingOf n x = record { answer = answer.made; used = n; happening = x .happening; written = x .written; next = x .next }
 
-abbrev pub spoken : answer.Answer → Intake → List ℕ → answer.Record
-spoken a t reply = record { answer = a; used = t .used; happening = turnOf t .happening; written = wrote (turnOf t .reply) reply; next = turnOf t .next }
+abbrev pub telling : ℕ → Said → answer.Record
+telling n x = tellingOf n (talk.says x)
+
+-- what quiet bytes lead to, and what a turn comes to where so many bytes were used
+abbrev pub still : Session → Turn
+still s = record { reply = []; happening = nothing; next = s }
+
+abbrev pub outOf : ℕ → Turn → Out Session Happening
+outOf n t = record { used = n; state = t .next; reply = t .reply; happened = t .happening }
+
+-- what feeding a piece comes to was said: the step's record, and the reply buffer after it
+abbrev pub Spoken : Out Session Happening → answer.Record → List ℕ → List ℕ → Type 0
+Spoken o r reply after = (r ≡ record { answer = answer.made; used = o .used; happening = o .happened; written = wrote (o .reply) reply; next = o .state }) × (after ≡ placed (o .reply) 0 reply)

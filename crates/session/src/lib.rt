@@ -12,7 +12,6 @@ use replies::Reply;
 pub use session_rules::LONGEST_REPLY;
 use talk::Event;
 use talk::Session;
-use talk::Stop;
 
 // Whether a call was made, or refused by the paper's number.
 pub enum Stepping {
@@ -33,13 +32,6 @@ pub struct Step {
 pub struct Opened {
     pub stepping: Stepping,
     pub written: usize,
-    pub session: Session,
-}
-
-// What a piece comes to before anything is said: the bytes used, what they came to, and the session that took them in.
-pub(crate) struct Intake {
-    pub used: usize,
-    pub stop: Stop,
     pub session: Session,
 }
 
@@ -70,14 +62,21 @@ pub fn open_session(reply: &mut [u8]) -> Opened
 pub fn feed(s: Session, piece: &[u8], payload: &mut [u8], reply: &mut [u8]) -> Step
     ensures { λ r. ⌜ (says r ≡ stepOf s (now (piece .entry)) (now (payload .entry)) (length (now (reply .entry))) .stepRecord) × (now (payload .exit) ≡ stepOf s (now (piece .entry)) (now (payload .entry)) (length (now (reply .entry))) .payload) × (now (reply .exit) ≡ front (stepOf s (now (piece .entry)) (now (payload .entry)) (length (now (reply .entry))) .reply) (now (reply .entry))) ⌝ }
 {
-    let number = session_rules::refusal(s, payload.len(), reply.len());
+    let line = s.line;
+    let number = session_rules::refusal(
+        s.mode,
+        s.line_len,
+        &line,
+        s.terms,
+        s.got,
+        payload.len(),
+        reply.len(),
+    );
     if number > 0 {
-        return pieces::refuse(s, number, reply);
+        return pieces::silent(Stepping::Refused(number), 0, Event::Nothing, s);
     }
     if s.mode == 2 {
-        let t = pieces::receive(s, piece, payload);
-        return pieces::tell(Stepping::Went, t, reply);
+        return pieces::receive(s, piece, payload, reply);
     }
-    let t = pieces::listen(s, piece);
-    pieces::tell(Stepping::Went, t, reply)
+    pieces::listen(s, piece, reply)
 }

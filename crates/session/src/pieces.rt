@@ -1,33 +1,45 @@
-// A piece of the peer's bytes: quiet bytes are taken in at once, then at most one byte that stops the call; then what is due is said.
-use crate::Intake;
+// A piece of the peer's bytes: quiet bytes are taken in at once, then at most one byte that stops the call. Where all are quiet the step is made at
+// once: nothing is due, and a host that feeds byte by byte pays for one step with no line's fields.
 use crate::Step;
 use crate::Stepping;
+use talk::Ending;
+use talk::Event;
+use talk::Said;
 use talk::Session;
-use talk::Stop;
 ghost use mathlib.Core.Path.{_≡_};
 ghost use Prim.Native.Nat.{_≤_, _<_};
-ghost use mathlib.Core.List.{[]};
-ghost use lib.ListN.{take};
+ghost use lib.ListN.{take, replicate};
 ghost use Rattle.octets.specs.Bytes.{placed};
 ghost use Rattle.machine.specs.Machine.{run};
 ghost use Rattle.talk.specs.Talk.{nothing};
 ghost use Rattle.session.specs.Feed.{feed};
 ghost use Rattle.session.specs.Answer.{answering, says};
-ghost use Rattle.session.specs.Calls.{refused};
-ghost use Rattle.session.specs.Runs.{turnOf, outOf, spoken};
+ghost use Rattle.session.specs.Runs.{silence, telling, Spoken};
 
-// What is due is said.
-pub(crate) fn tell(stepping: Stepping, t: Intake, reply: &mut [u8]) -> Step
-    ensures { λ r. ⌜ (says r ≡ spoken (answering stepping) t (now (reply .entry))) × (now (reply .exit) ≡ placed (turnOf t .reply) 0 (now (reply .entry))) ⌝ }
+// Nothing is said, and no line was offered.
+pub(crate) fn silent(stepping: Stepping, used: usize, event: Event, session: Session) -> Step
+    ensures { λ r. ⌜ says r ≡ silence (answering stepping) used event session ⌝ }
 {
-    let used = t.used;
-    let stop = t.stop;
-    let said = talk::hear(stop, t.session, reply);
+    let line = talk::no_line();
+    Step {
+        stepping,
+        used,
+        event,
+        written: 0,
+        line,
+        session,
+    }
+}
+
+// What was said.
+fn told(used: usize, said: Said) -> Step
+    ensures { λ r. ⌜ says r ≡ telling used said ⌝ }
+{
     let event = said.event;
     let line = said.line;
     let session = said.session;
     Step {
-        stepping,
+        stepping: Stepping::Went,
         used,
         event,
         written: said.written,
@@ -36,55 +48,38 @@ pub(crate) fn tell(stepping: Stepping, t: Intake, reply: &mut [u8]) -> Step
     }
 }
 
-pub(crate) fn refuse(s: Session, number: u8, reply: &mut [u8]) -> Step
-    ensures { λ r. ⌜ (says r ≡ refused s [] number .stepRecord) × (now (reply .exit) ≡ now (reply .entry)) ⌝ }
-{
-    let still = Intake {
-        used: 0,
-        stop: Stop::Quiet,
-        session: s,
-    };
-    tell(Stepping::Refused(number), still, reply)
-}
-
 // Bytes of a line: up to its LF, to a 513th, or to the piece's end.
-pub(crate) fn listen(mut s: Session, piece: &[u8]) -> Intake
+pub(crate) fn listen(mut s: Session, piece: &[u8], reply: &mut [u8]) -> Step
     requires { ⌜ (s .mode ≤ 1) × (s .«line_len» ≤ 512) ⌝ }
-    ensures { λ r. ⌜ run feed nothing 0 s (now (piece .entry)) ≡ outOf r ⌝ }
+    ensures { λ r. ⌜ Spoken (run feed nothing 0 s (now (piece .entry))) (says r) (now (reply .entry)) (now (reply .exit)) ⌝ }
 {
     let before = s.line_len;
     let room = 512 - before;
     let part = tokens::before_byte(piece, b'\n');
     let n = part.len();
     if room < n {
-        return Intake {
-            used: room + 1,
-            stop: Stop::Overlong,
-            session: s,
-        };
+        let ending = Ending { reason: 1 };
+        return silent(Stepping::Went, room + 1, Event::End(ending), talk::closed());
     }
     let mut line = s.line;
     octets::copy_at(part, &mut line, before);
-    s.line = line;
-    s.line_len = before + n;
     if n == piece.len() {
-        return Intake {
-            used: n,
-            stop: Stop::Quiet,
-            session: s,
-        };
+        s.line = line;
+        s.line_len = before + n;
+        return silent(Stepping::Went, n, Event::Nothing, s);
     }
-    Intake {
-        used: n + 1,
-        stop: Stop::Line,
-        session: s,
+    let text = lengths::part(&line, before + n);
+    if s.mode == 0 {
+        return told(n + 1, talk::hear_line(text, reply));
     }
+    told(n + 1, talk::hear_data(s.terms, text, reply))
 }
 
-// Bytes of a payload: to their places and into the digest, up to the last one or to the piece's end.
-pub(crate) fn receive(mut s: Session, piece: &[u8], payload: &mut [u8]) -> Intake
-    requires { ⌜ (s .mode ≡ 2) × (s .got < s .terms .len) ⌝ }
-    ensures { λ r. ⌜ (run feed nothing 0 s (now (piece .entry)) ≡ outOf r) × (now (payload .exit) ≡ placed (take (r .used) (now (piece .entry))) (s .got) (now (payload .entry))) ⌝ }
+// Bytes of a payload: to their places and into the digest, up to the last one or to the piece's end. While they come there is no line, so none is
+// copied.
+pub(crate) fn receive(s: Session, piece: &[u8], payload: &mut [u8], reply: &mut [u8]) -> Step
+    requires { ⌜ (s .mode ≡ 2) × (s .«line_len» ≡ 0) × (s .line ≡ replicate 512 0) × (s .got < s .terms .len) ⌝ }
+    ensures { λ r. ⌜ Spoken (run feed nothing 0 s (now (piece .entry))) (says r) (now (reply .entry)) (now (reply .exit)) × (now (payload .exit) ≡ placed (take (run feed nothing 0 s (now (piece .entry)) .used) (now (piece .entry))) (s .got) (now (payload .entry))) ⌝ }
 {
     let terms = s.terms;
     let hash = s.hash;
@@ -94,18 +89,16 @@ pub(crate) fn receive(mut s: Session, piece: &[u8], payload: &mut [u8]) -> Intak
     let n = part.len();
     octets::copy_at(part, payload, got);
     let next = hash.feed_all(part);
-    s.hash = next;
-    s.got = got + n;
-    if n < left {
-        return Intake {
-            used: n,
-            stop: Stop::Quiet,
-            session: s,
-        };
+    if left <= n {
+        return told(n, talk::hear_payload(terms, next, reply));
     }
-    Intake {
-        used: n,
-        stop: Stop::Payload,
-        session: s,
-    }
+    let session = Session {
+        mode: 2,
+        line_len: 0,
+        line: [0u8; 512],
+        terms,
+        got: got + n,
+        hash: next,
+    };
+    silent(Stepping::Went, n, Event::Nothing, session)
 }

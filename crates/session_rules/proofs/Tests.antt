@@ -4,17 +4,18 @@ use Prim.Native.Nat.{ℕ, _≤_, _<_}
 use native.Mathlib.Omega.{arith}
 use native.Mathlib.Decide.{ℕ-discrete, decLe}
 use mathlib.Core.Bool.{Bool, true, false}
-use lib.ListN.{length, drop}
-use borrow.Author.Tests.{eq-eqb, ne-eqb, lt-ltb, le-leb, lt-leb, eqb-true, eqb-false, ltb-true, ltb-false, leb-true}
+use mathlib.Core.List.{List, [], _∷_}
+use lib.ListN.{length, drop, replicate}
+use borrow.Author.Tests.{eq-eqb, ne-eqb, lt-ltb, le-ltb, le-leb, lt-leb, eqb-true, eqb-false, ltb-true, ltb-false, leb-true}
 use Rattle.octets.specs.Words.{if_then_else_, _and_, _or_, _<?_, _≤?_, _=?_}
 use Rattle.octets.specs.Words as words
 use Rattle.octets.specs.Bytes.{allZero}
-use Rattle.octets.proofs.Tests.{if-yes, if-no, and-left, and-right, and-both, and-next, and-not-left, or-no, no-true, no-false}
+use Rattle.octets.proofs.Tests.{if-yes, if-no, and-left, and-right, and-both, and-next, and-not-left, and-not-right, or-no, no-true, no-false}
 use Rattle.refusals.specs.Numbers.{bufferTooShort, sessionClosed, stateBroken, longestPayload}
 use Rattle.field_rules.specs.Rules.{idIn}
 use Rattle.talk.specs.declared.Session.{Session}
 use Rattle.talk.specs.Sessions.{keepsTerms}
-use Rattle.session_rules.specs.Rules.{keepsLine, keepsPayload, keepsSession, longestReply, stepRefusal}
+use Rattle.session_rules.specs.Rules.{ruled, keepsLine, keepsPayload, keepsSession, longestReply, stepRefusal}
 
 -- the longest line that a mode may have
 abbrev pub longest : ℕ → ℕ
@@ -39,25 +40,24 @@ module _ (s : Session) where
 
 -- ---- all of them
 
-module _ (s : Session) (long : length (s .line) ≡ 512) where
+module _ (s : Session) where
   pub mode-high : 3 < s .mode → keepsSession s ≡ false
   unfolding keepsSession
   mode-high h = and-not-left _ _ (lt-leb (s .mode) 3 h)
 
   module _ (low : s .mode ≤ 3) where
-    rest : keepsSession s ≡ (keepsLine s and (keepsTerms (s .terms) and keepsPayload s))
-    unfolding keepsSession
-    rest = and-next _ _ (le-leb (s .mode) 3 low) ∙ and-next _ _ (eq-eqb _ _ long)
-
     pub line-bad : keepsLine s ≡ false → keepsSession s ≡ false
-    line-bad e = rest ∙ and-not-left _ _ e
+    unfolding keepsSession
+    line-bad e = and-next _ _ (le-leb (s .mode) 3 low) ∙ and-not-right (length (s .line) =? 512) _ (and-not-left _ _ e)
 
     module _ (line : keepsLine s ≡ true) where
       pub terms-bad : keepsTerms (s .terms) ≡ false → keepsSession s ≡ false
-      terms-bad f = rest ∙ and-next _ _ line ∙ and-not-left _ _ f
+      unfolding keepsSession
+      terms-bad f = and-next _ _ (le-leb (s .mode) 3 low) ∙ and-not-right (length (s .line) =? 512) _ (and-next _ _ line ∙ and-not-left _ _ f)
 
-      pub payload-left : keepsTerms (s .terms) ≡ true → keepsSession s ≡ keepsPayload s
-      payload-left f = rest ∙ and-next _ _ line ∙ and-next _ _ f
+      pub payload-left : length (s .line) ≡ 512 → keepsTerms (s .terms) ≡ true → keepsSession s ≡ keepsPayload s
+      unfolding keepsSession
+      payload-left long f = and-next _ _ (le-leb (s .mode) 3 low) ∙ and-next _ _ (eq-eqb _ _ long) ∙ and-next _ _ line ∙ and-next _ _ f
 
 -- what the rules say of a session that keeps them
 pub record Kept (s : Session) : Type 0 where
@@ -85,6 +85,14 @@ pub keep : (s : Session) → Kept s → keepsSession s ≡ true
 unfolding keepsSession
 keep s k = and-both _ _ (le-leb _ _ (k .mode)) (and-both _ _ (eq-eqb _ _ (k .long)) (and-both _ _ (k .line) (and-both _ _ (k .terms) (k .payload))))
 
+-- bytes that are all zero
+zeros : (l : List ℕ) → allZero l ≡ true → l ≡ replicate (length l) 0
+zeros [] e = refl
+zeros (b ∷ l) e =
+    let h = eqb-true b 0 (and-left (b =? 0) (allZero l) e) in
+    let r = zeros l (and-right (b =? 0) (allZero l) e) in
+    λ i. h i ∷ r i
+
 -- the bounds that the calls use
 pub line-bound : (s : Session) → Kept s → s .mode < 2 → s .«line_len» ≤ 512
 unfolding keepsLine
@@ -92,6 +100,15 @@ line-bound s k m =
     let b : s .«line_len» ≤ longest (s .mode) = leb-true (s .«line_len») (longest (s .mode)) (and-left (s .«line_len» ≤? longest (s .mode)) _ (k .line)) in
     let e : longest (s .mode) ≡ 512 = if-yes _ _ _ (lt-ltb (s .mode) 2 m) in
     omega arith
+
+pub no-line : (s : Session) → Kept s → s .mode ≡ 2 → (s .«line_len» ≡ 0) × (s .line ≡ replicate 512 0)
+unfolding keepsLine
+no-line s k m =
+    let b : s .«line_len» ≤ longest (s .mode) = leb-true (s .«line_len») (longest (s .mode)) (and-left (s .«line_len» ≤? longest (s .mode)) _ (k .line)) in
+    let e : longest (s .mode) ≡ 0 = if-no _ _ _ (le-ltb (s .mode) 2 (omega arith)) in
+    let z : s .«line_len» ≡ 0 = omega arith in
+    let a : allZero (s .line) ≡ true = ap (λ (n : ℕ). allZero (drop n (s .line))) (sym z) ∙ and-right (s .«line_len» ≤? longest (s .mode)) _ (k .line) in
+    (z, zeros (s .line) a ∙ ap (λ (n : ℕ). replicate n 0) (k .long))
 
 pub terms-bound : (s : Session) → Kept s → s .terms .len ≤ 4096
 unfolding keepsTerms
@@ -114,6 +131,11 @@ mode-low s k c p = go (decLe (s .mode) 1)
 -- both buffers are long enough where neither is too short
 pub long-enough : (n m : ℕ) → (n <? longestPayload or m <? longestReply) ≡ false → (longestPayload ≤ n) × (longestReply ≤ m)
 long-enough n m e = let k = or-no (n <? longestPayload) (m <? longestReply) e in (ltb-false _ _ (k .0), ltb-false _ _ (k .1))
+
+-- the running digest has no rule
+pub digest-free : (s : Session) (payload room n : ℕ) → n ≡ stepRefusal (ruled (s .mode) (s .«line_len») (s .line) (s .terms) (s .got)) payload room → n ≡ stepRefusal s payload room
+unfolding stepRefusal keepsSession keepsLine keepsPayload
+digest-free s payload room n e = e
 
 -- the number of a refusal, test by test
 module _ (s : Session) (payload room : ℕ) where

@@ -1,10 +1,13 @@
 -- Document 01, "Numbers the node says no with", 40, 22 and 5: the rules of a session, and what a call tests before it feeds a piece.
 use Prim.Native.Nat.{ℕ}
 use mathlib.Core.Bool.{Bool}
+use mathlib.Core.List.{List}
 use lib.ListN.{length, drop}
 use Rattle.octets.specs.Words.{if_then_else_, _and_, _or_, no, _<?_, _≤?_, _=?_}
 use Rattle.octets.specs.Bytes.{allZero}
 use Rattle.refusals.specs.Numbers.{bufferTooShort, sessionClosed, stateBroken, longestPayload}
+use Rattle.sha1.specs.Machine.{fresh}
+use Rattle.talk.specs.declared.Terms.{Terms}
 use Rattle.talk.specs.declared.Session.{Session}
 use Rattle.talk.specs.Sessions.{keepsTerms}
 
@@ -31,3 +34,7 @@ stepRefusal s payload room =
     else if s .mode =? 3 then sessionClosed
     else if payload <? longestPayload or room <? longestReply then bufferTooShort
     else 0
+
+-- a session by its fields that have rules; its running digest has none
+abbrev pub ruled : ℕ → ℕ → List ℕ → Terms → ℕ → Session
+ruled mode n line t got = record { mode = mode; «line_len» = n; line = line; terms = t; got = got; hash = fresh }

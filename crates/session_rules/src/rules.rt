@@ -1,9 +1,9 @@
 // The tests, one by one.
-use talk::Session;
+use talk::Terms;
 ghost use mathlib.Core.Path.{_≡_};
 ghost use Rattle.octets.specs.Words.{if_then_else_, _or_, _<?_};
 ghost use Rattle.refusals.specs.Numbers.{longestPayload};
-ghost use Rattle.session_rules.specs.Rules.{keepsSession, longestReply};
+ghost use Rattle.session_rules.specs.Rules.{ruled, keepsSession, longestReply};
 
 // The longest line that a mode may have.
 fn longest_line(mode: u8) -> usize
@@ -15,27 +15,25 @@ fn longest_line(mode: u8) -> usize
     0
 }
 
-pub(crate) fn keep_rules(s: Session) -> bool
-    ensures { λ r. ⌜ r ≡ keepsSession s ⌝ }
+pub(crate) fn keep_rules(mode: u8, n: usize, line: &[u8; 512], terms: Terms, got: usize) -> bool
+    ensures { λ r. ⌜ r ≡ keepsSession (ruled mode n (now (line .entry)) terms got) ⌝ }
 {
-    let n = s.line_len;
-    if 3 < s.mode {
+    if 3 < mode {
         return false;
     }
-    if longest_line(s.mode) < n {
+    if longest_line(mode) < n {
         return false;
     }
-    if !lengths::zero_from(&s.line, n) {
+    if !lengths::zero_from(line, n) {
         return false;
     }
-    let t = s.terms;
-    if !talk::keep_rules(t) {
+    if !talk::keep_rules(terms) {
         return false;
     }
-    if s.mode == 2 {
-        return s.got < t.len as usize;
+    if mode == 2 {
+        return got < terms.len as usize;
     }
-    s.got == 0
+    got == 0
 }
 
 // Whether a lent buffer is too short (5).

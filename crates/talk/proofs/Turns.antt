@@ -25,11 +25,10 @@ use Rattle.replies.specs.Replies.{acks, bads, wrote}
 use Rattle.talk.specs.declared.Terms.{Terms}
 use Rattle.talk.specs.declared.Session.{Session}
 use Rattle.talk.specs.declared.Event.{Event}
-use Rattle.talk.specs.declared.Stop.{Stop}
 use Rattle.talk.specs.declared.Due.{Due}
 use Rattle.talk.specs.Answer.{Telling}
 use Rattle.talk.specs.Sessions.{termsOf, keepsTerms, salted, listening, promised, receiving}
-use Rattle.talk.specs.Talk.{Turn, nothing, message, closing, goingOn, offered, heardAs, heard, completed, dataHeard, lineHeard, turnAt, turnIn, replyDue, toldIn}
+use Rattle.talk.specs.Talk.{Turn, nothing, message, closing, goingOn, offered, heardAs, heard, completed, dataHeard, turnIn, replyDue, toldIn}
 
 -- what is due is a turn, where it is known which
 pub turn-as : (s : List ℕ) (d e : Due) (u : Turn) → d ≡ e → u ≡ turnIn s e → turnIn s d ≡ u
@@ -43,10 +42,12 @@ pub next-is : (w : Reply) (e : Event) (x y : Session) (d : Due) → x ≡ y → 
 next-is w e x y d p q = q ∙ ap (replyDue w e) p
 
 -- what was said, and what the reply buffer then holds, are the turn's
-pub said-by : (t u : Turn) (buffer after : List ℕ) (w : ℕ) → t ≡ u → (w ≡ wrote (t .reply) buffer) × (after ≡ placed (t .reply) 0 buffer)
-    → (_≡_ {A = Telling} (record { written = w; happening = t .happening; next = t .next }) (toldIn u buffer)) × (after ≡ placed (u .reply) 0 buffer)
-said-by t u buffer after w e k =
-    ((λ i. record { written = k .0 i; happening = t .happening; next = t .next }) ∙ ap (λ (x : Turn). toldIn x buffer) e, k .1 ∙ ap (λ (x : Turn). placed (x .reply) 0 buffer) e)
+pub said-by : (t : Turn) (buffer after : List ℕ) (w : ℕ) → (w ≡ wrote (t .reply) buffer) × (after ≡ placed (t .reply) 0 buffer)
+    → (_≡_ {A = Telling} (record { written = w; happening = t .happening; next = t .next }) (toldIn t buffer)) × (after ≡ placed (t .reply) 0 buffer)
+said-by t buffer after w k = (λ i. record { written = k .0 i; happening = t .happening; next = t .next }, k .1)
+
+pub told-by : (t u : Turn) (buffer after : List ℕ) (x : Telling) → t ≡ u → (x ≡ toldIn t buffer) × (after ≡ placed (t .reply) 0 buffer) → (x ≡ toldIn u buffer) × (after ≡ placed (u .reply) 0 buffer)
+told-by t u buffer after x e k = (k .0 ∙ ap (λ (y : Turn). toldIn y buffer) e, k .1 ∙ ap (λ (y : Turn). placed (y .reply) 0 buffer) e)
 
 -- ---- the numbers of an offer
 
@@ -117,15 +118,7 @@ pub offered-as : (s : List ℕ) (a : Outcome) (x : Reading) (d : Due) → a ≡ 
     → turnIn s d ≡ offered s (readOf s .reading) (readOf s .line)
 offered-as s a x d p q k = k ∙ ap (λ (z : Reading). offered s z (a .line)) q ∙ ap (λ (y : Outcome). offered s (y .reading) (y .line)) p
 
--- a line between messages, by its kind, and the line after `send`
-module _ (z : Session) (s : List ℕ) (d : Due) where
-  pub first-as : (k x : Kind) → z .mode ≡ 0 → k ≡ kindOf s → k ≡ x → turnIn s d ≡ heardAs x s → turnIn s d ≡ lineHeard z s
-  unfolding heard
-  first-as k x m e q h = h ∙ ap (λ (y : Kind). heardAs y s) (sym q ∙ e) ∙ sym (if-yes _ _ _ (eq-eqb _ _ m))
-
-  pub data-as : (z .mode ≡ 0 → ⊥) → turnIn s d ≡ dataHeard (z .terms) s → turnIn s d ≡ lineHeard z s
-  data-as m h = h ∙ sym (if-no _ _ _ (ne-eqb _ _ m))
-
--- by what the bytes came to
-pub stop-as : (x y : Stop) (z : Session) (s : List ℕ) (d : Due) → x ≡ y → turnIn s d ≡ turnAt y z s → turnIn s d ≡ turnAt x z s
-stop-as x y z s d e k = k ∙ ap (λ (w : Stop). turnAt w z s) (sym e)
+-- a line between messages, by its kind
+pub first-as : (s : List ℕ) (d : Due) (k x : Kind) → k ≡ kindOf s → k ≡ x → turnIn s d ≡ heardAs x s → turnIn s d ≡ heard s
+unfolding heard
+first-as s d k x e q h = h ∙ ap (λ (y : Kind). heardAs y s) (sym q ∙ e)

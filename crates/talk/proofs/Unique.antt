@@ -10,8 +10,14 @@ use Rattle.talk.proofs.listening.Kinds as listening-kinds
 use Rattle.talk.proofs.listening.Reads as listening-reads
 use Rattle.talk.proofs.closed.Kinds as closed-kinds
 use Rattle.talk.proofs.closed.Reads as closed-reads
-use Rattle.talk.proofs.hear.Kinds as hear-kinds
-use Rattle.talk.proofs.hear.Reads as hear-reads
+use Rattle.talk.proofs.no_line.Kinds as no-line-kinds
+use Rattle.talk.proofs.no_line.Reads as no-line-reads
+use Rattle.talk.proofs.hear_line.Kinds as hear-line-kinds
+use Rattle.talk.proofs.hear_line.Reads as hear-line-reads
+use Rattle.talk.proofs.hear_data.Kinds as hear-data-kinds
+use Rattle.talk.proofs.hear_data.Reads as hear-data-reads
+use Rattle.talk.proofs.hear_payload.Kinds as hear-payload-kinds
+use Rattle.talk.proofs.hear_payload.Reads as hear-payload-reads
 
 -- what an event says is said by that event only
 pub one-event : (x y : Event) → happened x ≡ happened y → x ≡ y
@@ -55,8 +61,26 @@ keep-rules-one κs a x y v w p q = (p ∙ sym q, refl)
 pub keep-rules-free : Free 0 keep-rules-kinds.ps keep-rules-reads.Pre
 keep-rules-free κs a = tt
 
-pub hear-one : One 1 hear-kinds.ps hear-kinds.r hear-reads.Post
-hear-one κs a x y v w p q = (one-said x y (p .0 ∙ sym (q .0)), λ i. (tt, (tt, ((p .1 ∙ sym (q .1)) i, tt))))
+pub no-line-one : One 0 no-line-kinds.ps no-line-kinds.r no-line-reads.Post
+no-line-one κs a x y v w p q = (p ∙ sym q, refl)
 
-pub hear-free : Free 1 hear-kinds.ps hear-reads.Pre
-hear-free κs a = tt
+pub no-line-free : Free 0 no-line-kinds.ps no-line-reads.Pre
+no-line-free κs a = tt
+
+pub hear-line-one : One 2 hear-line-kinds.ps hear-line-kinds.r hear-line-reads.Post
+hear-line-one κs a x y v w p q = (one-said x y (p .0 ∙ sym (q .0)), λ i. (tt, ((p .1 ∙ sym (q .1)) i, tt)))
+
+pub hear-line-free : Free 2 hear-line-kinds.ps hear-line-reads.Pre
+hear-line-free κs a = tt
+
+pub hear-data-one : One 2 hear-data-kinds.ps hear-data-kinds.r hear-data-reads.Post
+hear-data-one κs a x y v w p q = (one-said x y (p .0 ∙ sym (q .0)), λ i. (tt, (tt, ((p .1 ∙ sym (q .1)) i, tt))))
+
+pub hear-data-free : Free 2 hear-data-kinds.ps hear-data-reads.Pre
+hear-data-free κs a = tt
+
+pub hear-payload-one : One 1 hear-payload-kinds.ps hear-payload-kinds.r hear-payload-reads.Post
+hear-payload-one κs a x y v w p q = (one-said x y (p .0 ∙ sym (q .0)), λ i. (tt, (tt, ((p .1 ∙ sym (q .1)) i, tt))))
+
+pub hear-payload-free : Free 1 hear-payload-kinds.ps hear-payload-reads.Pre
+hear-payload-free κs a = tt

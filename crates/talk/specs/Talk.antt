@@ -15,7 +15,6 @@ use Rattle.replies.specs.Replies.{LF, 'error', errorToken, sends, errs, acks, b
 use Rattle.talk.specs.declared.Terms.{Terms}
 use Rattle.talk.specs.declared.Session.{Session}
 use Rattle.talk.specs.declared.Event.{Event}
-use Rattle.talk.specs.declared.Stop.{Stop}
 use Rattle.talk.specs.declared.Due.{Due}
 use Rattle.talk.specs.Answer.{Happening, Telling}
 use Rattle.talk.specs.Answer as what
@@ -84,15 +83,7 @@ dataHeard t s =
 abbrev pub lineHeard : Session → List ℕ → Turn
 lineHeard s text = if s .mode =? 0 then heard text else dataHeard (s .terms) text
 
--- ---- what the bytes taken in lead to: quiet ones to nothing; a line or a payload that is whole; a 513th byte closes, nothing written
-
-abbrev pub turnAt : Stop → Session → List ℕ → Turn
-turnAt Stop.Quiet s text = record { reply = []; happening = nothing; next = s }
-turnAt Stop.Line s text = lineHeard s text
-turnAt Stop.Payload s text = completed (s .terms) (s .hash)
-turnAt Stop.Overlong s text = closing [] 1
-
--- what is due on a line, as a turn; and what is due with no line's fields
+-- ---- what is due on a line, as a turn; and what is due with no line's fields
 
 abbrev pub turnIn : List ℕ → Due → Turn
 turnIn s d = record { reply = replyText (d .reply) s; happening = record { what = what.happened (d .event); line = d .line }; next = d .session }

@@ -2,8 +2,9 @@
 ghost use mathlib.Core.Path.{_≡_};
 ghost use Rattle.octets.specs.Bytes.{placed};
 ghost use Rattle.talk.specs.Answer.{says};
-ghost use Rattle.talk.specs.Sessions.{keepsTerms, lineSoFar, listening, closed};
-ghost use Rattle.talk.specs.Talk.{turnAt, toldIn};
+ghost use Rattle.line.specs.Reading.{blankLine};
+ghost use Rattle.talk.specs.Sessions.{keepsTerms, listening, closed};
+ghost use Rattle.talk.specs.Talk.{heard, dataHeard, completed, turnIn, toldIn};
 
 mod lines;
 mod states;
@@ -52,14 +53,6 @@ pub struct Said {
     pub session: Session,
 }
 
-// What a call's bytes come to: quiet ones alone; a line that is whole; a payload that is whole; a line with a 513th byte.
-pub enum Stop {
-    Quiet,
-    Line,
-    Payload,
-    Overlong,
-}
-
 // What is due: the reply, what happened with the fields of its line, and the session after it.
 pub(crate) struct Due {
     pub reply: Reply,
@@ -92,13 +85,18 @@ pub fn keep_rules(t: Terms) -> bool
     t.len as usize <= refusals::LONGEST_PAYLOAD
 }
 
-// What the bytes that a session has taken in lead to; the reply stands at the front of a lent buffer.
-pub fn hear(stop: Stop, s: Session, reply: &mut [u8]) -> Said
-    ensures { λ r. ⌜ (says r ≡ toldIn (turnAt stop s (lineSoFar s)) (now (reply .entry))) × (now (reply .exit) ≡ placed (turnAt stop s (lineSoFar s) .reply) 0 (now (reply .entry))) ⌝ }
+// The line of no offer.
+pub fn no_line() -> Line
+    ensures { λ r. ⌜ r ≡ blankLine ⌝ }
 {
-    let held = s;
-    let text = lengths::part(&held.line, s.line_len);
-    let due = lines::stopped(stop, s, text);
+    let fields = envelope::blank();
+    Line { len: 0, fields }
+}
+
+// What is due is said; the reply stands at the front of a lent buffer.
+fn say(due: Due, text: &[u8], reply: &mut [u8]) -> Said
+    ensures { λ r. ⌜ (says r ≡ toldIn (turnIn (now (text .entry)) due) (now (reply .entry))) × (now (reply .exit) ≡ placed (turnIn (now (text .entry)) due .reply) 0 (now (reply .entry))) ⌝ }
+{
     let what = due.reply;
     let event = due.event;
     let line = due.line;
@@ -110,4 +108,28 @@ pub fn hear(stop: Stop, s: Session, reply: &mut [u8]) -> Said
         line,
         session,
     }
+}
+
+// A whole line between messages.
+pub fn hear_line(text: &[u8], reply: &mut [u8]) -> Said
+    ensures { λ r. ⌜ (says r ≡ toldIn (heard (now (text .entry))) (now (reply .entry))) × (now (reply .exit) ≡ placed (heard (now (text .entry)) .reply) 0 (now (reply .entry))) ⌝ }
+{
+    let due = lines::hear_line(text);
+    say(due, text, reply)
+}
+
+// The line after `send`.
+pub fn hear_data(terms: Terms, text: &[u8], reply: &mut [u8]) -> Said
+    ensures { λ r. ⌜ (says r ≡ toldIn (dataHeard terms (now (text .entry))) (now (reply .entry))) × (now (reply .exit) ≡ placed (dataHeard terms (now (text .entry)) .reply) 0 (now (reply .entry))) ⌝ }
+{
+    let due = lines::hear_data(terms, text);
+    say(due, text, reply)
+}
+
+// A whole payload, by its digest.
+pub fn hear_payload(terms: Terms, hash: Sha1, reply: &mut [u8]) -> Said
+    ensures { λ r. ⌜ (says r ≡ toldIn (completed terms hash) (now (reply .entry))) × (now (reply .exit) ≡ placed (completed terms hash .reply) 0 (now (reply .entry))) ⌝ }
+{
+    let due = lines::complete(terms, hash);
+    say(due, b"", reply)
 }

@@ -3,7 +3,6 @@ use crate::Due;
 use crate::Ending;
 use crate::Event;
 use crate::Session;
-use crate::Stop;
 use crate::Terms;
 use crate::states;
 use line::Line;
@@ -16,13 +15,13 @@ ghost use Rattle.line.specs.Reading.{readOf};
 ghost use Rattle.replies.specs.declared.Reply.{Reply};
 ghost use Rattle.talk.specs.declared.Event.{Event};
 ghost use Rattle.talk.specs.Sessions.{termsOf, listening, promised, closed};
-ghost use Rattle.talk.specs.Talk.{Completes, offered, dataHeard, lineHeard, turnAt, replyDue, turnIn};
+ghost use Rattle.talk.specs.Talk.{Completes, offered, dataHeard, heard, replyDue, turnIn};
 
 // A reply, what happened, and the session after it, with no line's fields.
 fn plain(reply: Reply, event: Event, session: Session) -> Due
     ensures { λ r. ⌜ r ≡ replyDue reply event session ⌝ }
 {
-    let line = states::no_line();
+    let line = crate::no_line();
     Due {
         reply,
         event,
@@ -47,7 +46,7 @@ fn goes_on(reply: Reply) -> Due
 }
 
 // A payload that is there as a whole, by its digest.
-fn complete(terms: Terms, hash: Sha1) -> Due
+pub(crate) fn complete(terms: Terms, hash: Sha1) -> Due
     ensures { λ r. ⌜ Completes r terms hash ⌝ }
 {
     let id = terms.id;
@@ -90,7 +89,7 @@ fn hear_offer(s: &[u8]) -> Due
 }
 
 // The line after `send`.
-fn hear_data(terms: Terms, s: &[u8]) -> Due
+pub(crate) fn hear_data(terms: Terms, s: &[u8]) -> Due
     ensures { λ r. ⌜ turnIn (now (s .entry)) r ≡ dataHeard terms (now (s .entry)) ⌝ }
 {
     if !crate::keep_rules(terms) {
@@ -113,32 +112,16 @@ fn hear_data(terms: Terms, s: &[u8]) -> Due
     )
 }
 
-// A line that is whole: after `send`, or between messages.
-fn hear_line(s: Session, text: &[u8]) -> Due
-    ensures { λ r. ⌜ turnIn (now (text .entry)) r ≡ lineHeard s (now (text .entry)) ⌝ }
+// A line between messages, by its kind.
+pub(crate) fn hear_line(s: &[u8]) -> Due
+    ensures { λ r. ⌜ turnIn (now (s .entry)) r ≡ heard (now (s .entry)) ⌝ }
 {
-    if s.mode != 0 {
-        let terms = s.terms;
-        return hear_data(terms, text);
-    }
-    let k = phrases::kind_of(text);
+    let k = phrases::kind_of(s);
     match k {
-        phrases::Kind::Ihave => hear_offer(text),
+        phrases::Kind::Ihave => hear_offer(s),
         phrases::Kind::Data => ends(Reply::Error, 1),
         phrases::Kind::Leave => ends(Reply::Bye, 0),
         phrases::Kind::Ask => goes_on(Reply::Help),
         phrases::Kind::Other => goes_on(Reply::Eh),
-    }
-}
-
-// By what the bytes came to.
-pub(crate) fn stopped(stop: Stop, s: Session, text: &[u8]) -> Due
-    ensures { λ r. ⌜ turnIn (now (text .entry)) r ≡ turnAt stop s (now (text .entry)) ⌝ }
-{
-    match stop {
-        Stop::Quiet => plain(Reply::Silence, Event::Nothing, s),
-        Stop::Line => hear_line(s, text),
-        Stop::Payload => complete(s.terms, s.hash),
-        Stop::Overlong => ends(Reply::Silence, 1),
     }
 }

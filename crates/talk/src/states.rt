@@ -1,11 +1,9 @@
 // The states of a session, as they are entered.
 use crate::Session;
 use crate::Terms;
-use line::Line;
 use sha1::Sha1;
 ghost use mathlib.Core.Path.{_≡_};
 ghost use lib.ListN.{replicate};
-ghost use Rattle.line.specs.Reading.{blankLine};
 ghost use Rattle.talk.specs.Sessions.{noTerms};
 
 pub(crate) fn no_terms() -> Terms
@@ -31,12 +29,4 @@ pub(crate) fn entered(mode: u8, terms: Terms, hash: Sha1) -> Session
         got: 0,
         hash,
     }
-}
-
-// The line of no offer.
-pub(crate) fn no_line() -> Line
-    ensures { λ r. ⌜ r ≡ blankLine ⌝ }
-{
-    let fields = envelope::blank();
-    Line { len: 0, fields }
 }

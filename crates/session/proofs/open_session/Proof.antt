@@ -1,6 +1,7 @@
 -- The prompt, where there is room for every reply.
 use borrow.Author.Needs.{needs}
 use Rattle.replies.specs.Replies.{replyText}
+use Rattle.talk.specs.Sessions.{closed}
 use Rattle.session.proofs.Tests as tests
 use Rattle.session.proofs.open_session.Statement.{statement}
 use Rattle.session.proofs.open_session.Tie as tie

@@ -1,65 +1,59 @@
 -- The rules, one after the other.
-use mathlib.Core.Path.{_≡_, sym, _∙_}
+use mathlib.Core.Path.{sym, _∙_}
 use native.Mathlib.Omega.{arith}
 use borrow.Author.Needs.{needs}
 use borrow.Author.Tests.{not-true, not-false}
-use lib.ListN.{length}
+use Rattle.session_rules.specs.Rules.{ruled}
 use Rattle.session_rules.proofs.Tests as tests
 use Rattle.session_rules.proofs.rules.keep_rules.Statement.{statement}
 use Rattle.session_rules.proofs.rules.keep_rules.Tie as tie
 
-long : (c : tie.Start) → length (c .args .t1 .line) ≡ 512
-long c = search needs
-
 returns : tie.Need-returns
-returns c = sym (tests.mode-high (c .before .args .t1) (long (c .before)) (search needs))
+returns c =
+    let at-args = c .before .args in
+    sym (tests.mode-high (ruled (at-args .mode) (at-args .n) (at-args .line .now) (at-args .terms) (at-args .got)) (search needs))
 
 returns-2 : tie.Need-returns-2
 returns-2 c =
     let at-args = c .before .before .before .args in
-    let at-start = c .before .before .before in
-    sym (tests.line-bad (at-args .t1) (long at-start) (search needs) (tests.line-over (at-args .t1) (omega (arith, c .before .longest-line .ensures, c .if2 .taken))))
+    sym (tests.line-bad (ruled (at-args .mode) (at-args .n) (at-args .line .now) (at-args .terms) (at-args .got)) (search needs) (tests.line-over (ruled (at-args .mode) (at-args .n) (at-args .line .now) (at-args .terms) (at-args .got)) (omega (arith, c .before .longest-line .ensures, c .if2 .taken))))
 
 returns-3 : tie.Need-returns-3
 returns-3 c =
-    let at-args = c .before .before .before .before .before .before .before .before .args in
-    let at-start = c .before .before .before .before .before .before .before .before in
-    let at-longest-line = c .before .before .before .before .before .before .longest-line in
-    let at-if2 = c .before .before .before .before .before .if2 in
-    sym (tests.line-bad (at-args .t1) (long at-start) (search needs) (tests.line-rest (at-args .t1) (omega (arith, at-longest-line .ensures, at-if2 .left)) ∙ sym (c .before .zero-from .ensures) ∙ not-true _ (c .if3 .taken)))
+    let at-args = c .before .before .before .before .before .before .args in
+    let at-longest-line = c .before .before .before .before .longest-line in
+    let at-if2 = c .before .before .before .if2 in
+    sym (tests.line-bad (ruled (at-args .mode) (at-args .n) (at-args .line .now) (at-args .terms) (at-args .got)) (search needs) (tests.line-rest (ruled (at-args .mode) (at-args .n) (at-args .line .now) (at-args .terms) (at-args .got)) (omega (arith, at-longest-line .ensures, at-if2 .left)) ∙ sym (c .before .zero-from .ensures) ∙ not-true _ (c .if3 .taken)))
 
 returns-4 : tie.Need-returns-4
 returns-4 c =
-    let at-args = c .before .before .before .before .before .before .before .before .before .before .before .args in
-    let at-start = c .before .before .before .before .before .before .before .before .before .before .before in
-    let at-longest-line = c .before .before .before .before .before .before .before .before .before .longest-line in
-    let at-if2 = c .before .before .before .before .before .before .before .before .if2 in
-    let at-zero-from = c .before .before .before .before .zero-from in
-    let at-if3 = c .before .before .before .if3 in
-    sym (tests.terms-bad (at-args .t1) (long at-start) (search needs) (tests.line-rest (at-args .t1) (omega (arith, at-longest-line .ensures, at-if2 .left)) ∙ sym (at-zero-from .ensures) ∙ not-false _ (at-if3 .left)) (sym (c .before .keep-rules .ensures) ∙ not-true _ (c .if4 .taken)))
+    let at-args = c .before .before .before .before .before .before .before .before .args in
+    let at-longest-line = c .before .before .before .before .before .before .longest-line in
+    let at-if2 = c .before .before .before .before .before .if2 in
+    let at-zero-from = c .before .before .before .zero-from in
+    let at-if3 = c .before .before .if3 in
+    sym (tests.terms-bad (ruled (at-args .mode) (at-args .n) (at-args .line .now) (at-args .terms) (at-args .got)) (search needs) (tests.line-rest (ruled (at-args .mode) (at-args .n) (at-args .line .now) (at-args .terms) (at-args .got)) (omega (arith, at-longest-line .ensures, at-if2 .left)) ∙ sym (at-zero-from .ensures) ∙ not-false _ (at-if3 .left)) (sym (c .before .keep-rules .ensures) ∙ not-true _ (c .if4 .taken)))
 
 returns-5 : tie.Need-returns-5
 returns-5 c =
-    let at-args = c .before .before .before .before .before .before .before .before .before .before .before .before .before .args in
-    let at-start = c .before .before .before .before .before .before .before .before .before .before .before .before .before in
-    let at-longest-line = c .before .before .before .before .before .before .before .before .before .before .before .longest-line in
-    let at-if2 = c .before .before .before .before .before .before .before .before .before .before .if2 in
-    let at-zero-from = c .before .before .before .before .before .before .zero-from in
-    let at-if3 = c .before .before .before .before .before .if3 in
+    let at-args = c .before .before .before .before .before .before .before .before .before .before .args in
+    let at-longest-line = c .before .before .before .before .before .before .before .before .longest-line in
+    let at-if2 = c .before .before .before .before .before .before .before .if2 in
+    let at-zero-from = c .before .before .before .before .before .zero-from in
+    let at-if3 = c .before .before .before .before .if3 in
     let at-keep-rules = c .before .before .before .keep-rules in
     let at-if4 = c .before .before .if4 in
-    sym (tests.payload-left (at-args .t1) (long at-start) (search needs) (tests.line-rest (at-args .t1) (omega (arith, at-longest-line .ensures, at-if2 .left)) ∙ sym (at-zero-from .ensures) ∙ not-false _ (at-if3 .left)) (sym (at-keep-rules .ensures) ∙ not-false _ (at-if4 .left)) ∙ tests.payload-comes (at-args .t1) (c .before .if5 .taken))
+    sym (tests.payload-left (ruled (at-args .mode) (at-args .n) (at-args .line .now) (at-args .terms) (at-args .got)) (search needs) (tests.line-rest (ruled (at-args .mode) (at-args .n) (at-args .line .now) (at-args .terms) (at-args .got)) (omega (arith, at-longest-line .ensures, at-if2 .left)) ∙ sym (at-zero-from .ensures) ∙ not-false _ (at-if3 .left)) (search needs) (sym (at-keep-rules .ensures) ∙ not-false _ (at-if4 .left)) ∙ tests.payload-comes (ruled (at-args .mode) (at-args .n) (at-args .line .now) (at-args .terms) (at-args .got)) (c .before .if5 .taken))
 
 returns-6 : tie.Need-returns-6
 returns-6 c =
-    let at-args = c .before .before .before .before .before .before .before .before .before .before .before .before .args in
-    let at-start = c .before .before .before .before .before .before .before .before .before .before .before .before in
-    let at-longest-line = c .before .before .before .before .before .before .before .before .before .before .longest-line in
-    let at-if2 = c .before .before .before .before .before .before .before .before .before .if2 in
-    let at-zero-from = c .before .before .before .before .before .zero-from in
-    let at-if3 = c .before .before .before .before .if3 in
+    let at-args = c .before .before .before .before .before .before .before .before .before .args in
+    let at-longest-line = c .before .before .before .before .before .before .before .longest-line in
+    let at-if2 = c .before .before .before .before .before .before .if2 in
+    let at-zero-from = c .before .before .before .before .zero-from in
+    let at-if3 = c .before .before .before .if3 in
     let at-keep-rules = c .before .before .keep-rules in
-    sym (tests.payload-left (at-args .t1) (long at-start) (search needs) (tests.line-rest (at-args .t1) (omega (arith, at-longest-line .ensures, at-if2 .left)) ∙ sym (at-zero-from .ensures) ∙ not-false _ (at-if3 .left)) (sym (at-keep-rules .ensures) ∙ not-false _ (c .before .if4 .left)) ∙ tests.payload-none (at-args .t1) (c .if5 .left))
+    sym (tests.payload-left (ruled (at-args .mode) (at-args .n) (at-args .line .now) (at-args .terms) (at-args .got)) (search needs) (tests.line-rest (ruled (at-args .mode) (at-args .n) (at-args .line .now) (at-args .terms) (at-args .got)) (omega (arith, at-longest-line .ensures, at-if2 .left)) ∙ sym (at-zero-from .ensures) ∙ not-false _ (at-if3 .left)) (search needs) (sym (at-keep-rules .ensures) ∙ not-false _ (c .before .if4 .left)) ∙ tests.payload-none (ruled (at-args .mode) (at-args .n) (at-args .line .now) (at-args .terms) (at-args .got)) (c .if5 .left))
 
 pub keep-rules-spec : {M : Type 1} → statement M
 keep-rules-spec =

@@ -1,8 +1,8 @@
 -- The line of no offer.
 use borrow.Author.Needs.{needs}
 use Rattle.talk.proofs.Turns.{blank-is}
-use Rattle.talk.proofs.states.no_line.Statement.{statement}
-use Rattle.talk.proofs.states.no_line.Tie as tie
+use Rattle.talk.proofs.no_line.Statement.{statement}
+use Rattle.talk.proofs.no_line.Tie as tie
 
 returns : tie.Need-returns
 returns c = blank-is _ (c .blank .ensures)
