@@ -14,13 +14,10 @@ use Rattle.streams.specs.Table.{keepsTable}
 use Rattle.records.specs.Record.{body}
 use Rattle.image.specs.Answer.{written, SaveOutcome, unsaved}
 pub use Rattle.streams.specs.Table.{openCount}
+pub use Rattle.image_marks.specs.Marks.{endRecord}
 pub use Rattle.image_rows.specs.Rows.{rowMark, openSlot, slotFrom, slotsFrom}
 
 -- ---- the image
-
--- mark 53 45 and the row count
-abbrev pub endRecord : ℕ → List ℕ
-endRecord rows = 0x53 ∷ 0x45 ∷ rows ∷ []
 
 -- row i's record, where the row is open
 abbrev pub recordOf : ℕ → Slot → List ℕ

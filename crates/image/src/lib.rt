@@ -31,11 +31,11 @@ pub fn save(t: Table, out: &mut [u8]) -> Saved
         return Saved::Refused(refusals::STATE_BROKEN);
     };
     let size = put::records_size(t);
-    if out.len() < size + 3 {
+    if !image_marks::has_room(size, out.len()) {
         return Saved::Refused(refusals::BUFFER_TOO_SHORT);
     }
     put::put_records(t, out);
-    put::put_end(n, out, size);
+    image_marks::put_end(n as u8, out, size);
     Saved::Written(size + 3)
 }
 
@@ -52,7 +52,7 @@ pub fn load(t: Table, image: &[u8]) -> Loaded
         return walk::refused(refusals::NO_SAVED_IMAGE, t);
     }
     let used = r.used;
-    if !walk::is_end(&image[used..], r.rows) {
+    if !image_marks::is_end(&image[used..], r.rows as u8) {
         return walk::refused(refusals::NO_SAVED_IMAGE, t);
     }
     let u = r.table;

@@ -5,7 +5,7 @@ ghost use Prim.Native.Nat.{_+_, _≤_};
 ghost use lib.ListN.{length};
 ghost use Rattle.octets.specs.Bytes.{placed};
 ghost use Rattle.streams.specs.Table.{keepsSlot, keepsTable};
-ghost use Rattle.image.specs.Image.{endRecord, recordOf, recordsFrom};
+ghost use Rattle.image.specs.Image.{recordOf, recordsFrom};
 use slots::Slot;
 use streams::Table;
 
@@ -64,12 +64,4 @@ pub(crate) fn put_records(t: Table, out: &mut [u8])
         at += record_size(x);
         i += 1;
     }
-}
-
-pub(crate) fn put_end(rows: usize, out: &mut [u8], at: usize)
-    requires { ⌜ (rows ≤ 255) × (at + 3 ≤ length (now out)) ⌝ }
-    ensures { λ _. ⌜ now (out .exit) ≡ placed (endRecord rows) at (now (out .entry)) ⌝ }
-{
-    let end = [0x53u8, 0x45u8, rows as u8];
-    octets::copy_at(&end, out, at);
 }

@@ -10,7 +10,7 @@ use Rattle.octets.specs.Words.{if_then_else_, no}
 use Rattle.octets.specs.Bytes.{same}
 use Rattle.octets.specs.Field.{Res, bad, got, bind}
 use Rattle.octets.proofs.Tests.{if-yes, if-no}
-use Rattle.octets.proofs.Lists.{same-short, same-length}
+use Rattle.octets.proofs.Lists.{same-length}
 use Rattle.octets.proofs.FieldLaws.{bound}
 use Rattle.keys.specs.declared.Key.{Key}
 use Rattle.rows.specs.declared.Row.{Row}
@@ -35,9 +35,6 @@ pub rest : (k : ℕ) (d : List ℕ) → from k d ≡ drop k d
 rest k d = take-all (length d - k) (drop k d) (rw length-drop (omega arith))
 
 -- ---- a row by its mark
-
-pub unmarked-short : (i : ℕ) (s : List ℕ) → length s < 3 → false ≡ same (take 3 s) (rowMark i)
-unmarked-short i s h = sym (same-short (take 3 s) (rowMark i) (λ e. omega (arith, length-take 3 s)))
 
 marked-room : (i : ℕ) (s : List ℕ) → same (take 3 s) (rowMark i) ≡ true → 3 ≤ length s
 marked-room i s e = let z : length (take 3 s) ≡ 3 = same-length (take 3 s) (rowMark i) e in omega (arith, length-take 3 s)

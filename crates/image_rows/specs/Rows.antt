@@ -11,10 +11,7 @@ use Rattle.rows.specs.declared.Row.{Row}
 use Rattle.slots.specs.declared.Slot.{Slot}
 use Rattle.streams.specs.Table.{freeSlot}
 use Rattle.records.specs.Record.{body}
-
--- mark 53 54 and the row number
-abbrev pub rowMark : ℕ → List ℕ
-rowMark i = 0x53 ∷ 0x54 ∷ i ∷ []
+pub use Rattle.image_marks.specs.Marks.{rowMark}
 
 -- a record's key and row, in an open row
 abbrev pub openSlot : Key × Row → Slot

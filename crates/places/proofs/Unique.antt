@@ -15,12 +15,6 @@ use Rattle.places.proofs.without_first.Kinds as without-first-kinds
 use Rattle.places.proofs.without_first.Reads as without-first-reads
 use Rattle.places.proofs.gap_open.Kinds as gap-open-kinds
 use Rattle.places.proofs.gap_open.Reads as gap-open-reads
-use Rattle.places.proofs.above.Kinds as above-kinds
-use Rattle.places.proofs.above.Reads as above-reads
-use Rattle.places.proofs.start_after.Kinds as start-after-kinds
-use Rattle.places.proofs.start_after.Reads as start-after-reads
-use Rattle.places.proofs.later.Kinds as later-kinds
-use Rattle.places.proofs.later.Reads as later-reads
 
 pub blank-from-one : One 0 blank-from-kinds.ps blank-from-kinds.r blank-from-reads.Post
 blank-from-one κs a x y v w p q = (p ∙ sym q, refl)
@@ -63,21 +57,3 @@ gap-open-one κs a x y v w p q = (p ∙ sym q, refl)
 
 pub gap-open-free : Free 0 gap-open-kinds.ps gap-open-reads.Pre
 gap-open-free κs a = tt
-
-pub above-one : One 0 above-kinds.ps above-kinds.r above-reads.Post
-above-one κs a x y v w p q = (p ∙ sym q, refl)
-
-pub above-free : Free 0 above-kinds.ps above-reads.Pre
-above-free κs a = tt
-
-pub start-after-one : One 0 start-after-kinds.ps start-after-kinds.r start-after-reads.Post
-start-after-one κs a x y v w p q = (p ∙ sym q, refl)
-
-pub start-after-free : Free 0 start-after-kinds.ps start-after-reads.Pre
-start-after-free κs a = tt
-
-pub later-one : One 0 later-kinds.ps later-kinds.r later-reads.Post
-later-one κs a x y v w p q = (p ∙ sym q, refl)
-
-pub later-free : Free 0 later-kinds.ps later-reads.Pre
-later-free κs a = tt

@@ -1,4 +1,3 @@
 -- Document 01, "Streams": held messages.
 pub mod Messages
 pub mod Places
-pub mod Steps

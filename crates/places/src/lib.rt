@@ -1,12 +1,10 @@
 // Document 01, "Streams": the sixteen places of a row's held messages, and what the row's rules and calls ask of them, one loop to a function.
 ghost use mathlib.Core.Path.{_≡_};
 ghost use mathlib.Core.List.{_∷_, _++_, []};
-ghost use Prim.Native.Nat.{max};
 ghost use lib.ListN.{take, drop};
 ghost use Rattle.octets.specs.Words.{every};
 ghost use Rattle.places.specs.Messages.{ascending, holds, gapOpen};
 ghost use Rattle.places.specs.Places.{blank, isBlank, placeFor};
-ghost use Rattle.places.specs.Steps.{aboveBy, startAfter};
 
 // A message that waits: its number, how long a gap before it may stand open (0: for ever), and the slip under which the host keeps it.
 pub struct Held {
@@ -122,37 +120,4 @@ pub fn gap_open(held: [Held; 16], n: usize, expected: u64) -> bool
         return false;
     }
     expected < lengths::wide32(held[0].number)
-}
-
-// How many of `count` ascending messages stand above the expected number: all while the gap is open, else all but the first.
-pub fn above(count: usize, gap: bool) -> usize
-    ensures { λ r. ⌜ r ≡ aboveBy gap count ⌝ }
-{
-    if gap {
-        return count;
-    }
-    if count == 0 {
-        return 0;
-    }
-    count - 1
-}
-
-// The gap start after a call, by whether the gap was open before and is open after it.
-pub fn start_after(before: bool, after: bool, kept: u32, clock: u32) -> u32
-    ensures { λ r. ⌜ r ≡ startAfter before after kept clock ⌝ }
-{
-    if after {
-        if before {
-            return kept;
-        }
-        return clock;
-    }
-    0
-}
-
-// The larger of a row's clock and a time.
-pub fn later(a: u32, b: u32) -> u32
-    ensures { λ r. ⌜ r ≡ max a b ⌝ }
-{
-    if a < b { b } else { a }
 }

@@ -6,7 +6,7 @@ use Rattle.places.specs.declared.Held.{Held}
 use Rattle.octets.specs.Words.{_and_, _<?_, _≤?_}
 use Rattle.rows.specs.Stream.{Stream, above, due}
 pub use Rattle.places.specs.Places.{placeFor}
-pub use Rattle.places.specs.Steps.{aboveBy, startAfter}
+pub use Rattle.row_numbers.specs.Numbers.{aboveBy, startAfter}
 
 -- something is held, and the lowest is due
 abbrev pub dueFrom : Stream → ℕ → List Held → Bool

@@ -96,48 +96,38 @@ impl Row {
         let held = self.held;
         let count = self.count;
         let expected = self.expected;
-        if count > 16 {
-            return false;
-        }
         if !places::blank_from(held, count) {
             return false;
         }
-        if !calls::in_order(self) {
+        if !places::ascends(held, count, expected) {
             return false;
         }
-        if self.gap_start > self.clock {
-            return false;
-        }
-        if places::gap_open(held, count, expected) {
-            return true;
-        }
-        self.gap_start == 0
+        let gap = places::gap_open(held, count, expected);
+        row_numbers::keeps_numbers(count, expected, self.clock, self.gap_start, gap)
     }
 
     // Offers a message: its number, timeout and slip, at a time.
     pub fn offer(self, number: u32, timeout: u32, slip: u32, time: u32) -> Offered
         ensures { λ r. ⌜ offeredSays r ≡ offerOf self (record { number = number; timeout = timeout; slip = slip }) time ⌝ }
     {
-        if !self.keeps_rules() {
-            return calls::refused(refusals::STATE_BROKEN, self);
-        }
-        let wide = lengths::wide32(number);
-        if wide < self.expected {
-            return calls::refused(refusals::STALE, self);
-        }
         let held = self.held;
-        if places::has(held, self.count, number) {
-            return calls::refused(refusals::ALREADY_HELD, self);
-        }
-        if calls::is_full(self, wide) {
-            return calls::refused(refusals::ROW_FULL, self);
+        let count = self.count;
+        let expected = self.expected;
+        let known = places::has(held, count, number);
+        let gap = places::gap_open(held, count, expected);
+        let n = row_numbers::refuses_offer(self.keeps_rules(), number, expected, known, count, gap);
+        if n != 0 {
+            return Offered {
+                answer: Accepting::Refused(n),
+                row: self,
+            };
         }
         let m = Held {
             number: number,
             timeout: timeout,
             slip: slip,
         };
-        calls::accept(self, m, places::later(self.clock, time))
+        calls::accept(self, m, row_numbers::later(self.clock, time))
     }
 
     // Takes the lowest held message if it is due; otherwise only the clock goes on.
@@ -150,8 +140,16 @@ impl Row {
                 row: self,
             };
         }
-        let clock = places::later(self.clock, time);
-        if calls::is_due(self, clock) {
+        let clock = row_numbers::later(self.clock, time);
+        let lowest = self.held[0];
+        if row_numbers::is_due(
+            self.count,
+            lowest.number,
+            lowest.timeout,
+            self.expected,
+            self.gap_start,
+            clock,
+        ) {
             return calls::give(self, clock);
         }
         self.clock = clock;
@@ -171,7 +169,7 @@ impl Row {
                 row: self,
             };
         }
-        let now = places::later(self.clock, time);
+        let now = row_numbers::later(self.clock, time);
         if self.count > 0 {
             return calls::give(self, now);
         }

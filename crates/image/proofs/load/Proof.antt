@@ -37,31 +37,32 @@ part-is-end-start c =
     let at-read-rows = c .before .before .read-rows in
     load-room (at-args .t) (at-args .image .now) (rules (at-args .t) _ (at-open-rows .ensures) _ (at-present .given .1) .keeps) _ (at-read-rows .ensures) (not-false _ (c .if1 .left))
 
-is-end-requires : tie.Need-is-end-requires
-is-end-requires c κs =
-    let at-args = c .before .before .before .before .before .before .before .before .before .args in
-    let at-open-rows = c .before .before .before .before .before .before .before .open-rows in
-    let at-present = c .before .before .before .before .before .present in
-    let at-read-rows = c .before .before .before .read-rows in
-    omega (arith, load-rules (at-args .t) (at-args .image .now) (rules (at-args .t) _ (at-open-rows .ensures) _ (at-present .given .1) .keeps) _ (at-read-rows .ensures) (not-false _ (c .before .if1 .left)) .few)
+cast-is-end : tie.Need-cast-is-end
+cast-is-end c =
+    let at-args = c .before .before .before .before .before .before .before .before .before .before .args in
+    let at-open-rows = c .before .before .before .before .before .before .before .before .open-rows in
+    let at-present = c .before .before .before .before .before .before .present in
+    let at-read-rows = c .before .before .before .before .read-rows in
+    let at-if1 = c .before .before .if1 in
+    omega (arith, load-rules (at-args .t) (at-args .image .now) (rules (at-args .t) _ (at-open-rows .ensures) _ (at-present .given .1) .keeps) _ (at-read-rows .ensures) (not-false _ (at-if1 .left)) .few)
 
 returns-3 : tie.Need-returns-3
 returns-3 c =
-    let at-args = c .before .before .before .before .before .before .before .before .before .before .before .before .args in
-    let at-open-rows = c .before .before .before .before .before .before .before .before .before .before .open-rows in
-    let at-present = c .before .before .before .before .before .before .before .before .present in
-    let at-read-rows = c .before .before .before .before .before .before .read-rows in
-    let at-if1 = c .before .before .before .before .if1 in
+    let at-args = c .before .before .before .before .before .before .before .before .before .before .before .before .before .args in
+    let at-open-rows = c .before .before .before .before .before .before .before .before .before .before .before .open-rows in
+    let at-present = c .before .before .before .before .before .before .before .before .before .present in
+    let at-read-rows = c .before .before .before .before .before .before .before .read-rows in
+    let at-if1 = c .before .before .before .before .before .if1 in
     let at-is-end = c .before .before .is-end in
     c .refused3 .ensures ∙ load-end (at-args .t) (at-args .image .now) (rules (at-args .t) _ (at-open-rows .ensures) _ (at-present .given .1) .keeps) _ (at-read-rows .ensures) (not-false _ (at-if1 .left)) _ (at-is-end .ensures) (not-true _ (c .before .if2 .taken))
 
 returns-4 : tie.Need-returns-4
 returns-4 c =
-    let at-args = c .before .before .before .before .before .before .before .before .before .before .before .before .args in
-    let at-open-rows = c .before .before .before .before .before .before .before .before .before .before .open-rows in
-    let at-present = c .before .before .before .before .before .before .before .before .present in
-    let at-read-rows = c .before .before .before .before .before .before .read-rows in
-    let at-if1 = c .before .before .before .before .if1 in
+    let at-args = c .before .before .before .before .before .before .before .before .before .before .before .before .before .args in
+    let at-open-rows = c .before .before .before .before .before .before .before .before .before .before .before .open-rows in
+    let at-present = c .before .before .before .before .before .before .before .before .before .present in
+    let at-read-rows = c .before .before .before .before .before .before .before .read-rows in
+    let at-if1 = c .before .before .before .before .before .if1 in
     let at-is-end = c .before .before .is-end in
     load-yes (at-args .t) (at-args .image .now) (rules (at-args .t) _ (at-open-rows .ensures) _ (at-present .given .1) .keeps) _ (at-read-rows .ensures) (not-false _ (at-if1 .left)) _ (at-is-end .ensures) (not-false _ (c .before .if2 .left))
 
@@ -80,7 +81,8 @@ load-spec =
     sub-is-end
     part-is-end-start
     (λ c. search needs)
-    is-end-requires
+    cast-is-end
+    (λ c κs. search needs)
     (λ c κs. search needs)
     returns-3
     returns-4)

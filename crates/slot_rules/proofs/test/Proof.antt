@@ -54,14 +54,19 @@ loop-again c =
     let at-if1 = c .before .before .before .before .if1 in
     let at-free-keeps-rules = c .before .before .free-keeps-rules in
     let v = at-loop .inv in
-        let x = slotIn (at-args .t1) (at-loop .i) in
-        let o : x .«is_open» ≡ false = not-true (x .«is_open») (at-if1 .taken) in
-        let n : at-loop .i < length (at-args .t1) = omega (arith, v .0) in
-        (v .0, v .1, omega arith, v .3 ∙ every-next keepsSlot _ (at-loop .i) pastSlot n (sym (kept-free x _ o (at-free-keeps-rules .ensures)) ∙ not-false _ (c .before .if2 .left)), marked-free (at-args .t1) (at-loop .marks) (at-loop .i) (v .4) o,
-        seen-skip (hasKey (at-args .key)) (at-args .t1) (at-loop .found) (at-loop .i) n (search needs) (v .5) (free-unlike (at-args .key) x o),
-        seen-next isFree (at-args .t1) (at-loop .free) (at-loop .i) n (search needs) (v .6) _ (c .seen .ensures ∙ ap (seenAt (at-loop .free) (at-loop .i)) (sym (no-false _ o))),
-        omega (arith, v .7),
-        v .8 ∙ ap (λ (n : ℕ). at-loop .rows + n) (count-free (at-args .t1) (at-loop .i) pastSlot n o))
+    let x = slotIn (at-args .t1) (at-loop .i) in
+    let o : x .«is_open» ≡ false = not-true (x .«is_open») (at-if1 .taken) in
+    let n : at-loop .i < length (at-args .t1) = omega (arith, v .0) in (
+      v .0,
+      v .1,
+      omega arith,
+      v .3 ∙ every-next keepsSlot _ (at-loop .i) pastSlot n (sym (kept-free x _ o (at-free-keeps-rules .ensures)) ∙ not-false _ (c .before .if2 .left)),
+      marked-free (at-args .t1) (at-loop .marks) (at-loop .i) (v .4) o,
+      seen-skip (hasKey (at-args .key)) (at-args .t1) (at-loop .found) (at-loop .i) n (search needs) (v .5) (free-unlike (at-args .key) x o),
+      seen-next isFree (at-args .t1) (at-loop .free) (at-loop .i) n (search needs) (v .6) _ (c .seen .ensures ∙ ap (seenAt (at-loop .free) (at-loop .i)) (sym (no-false _ o))),
+      omega (arith, v .7),
+      v .8 ∙ ap (λ (n : ℕ). at-loop .rows + n) (count-free (at-args .t1) (at-loop .i) pastSlot n o),
+    )
 
 returns-2 : tie.Need-returns-2 Inv-loop μ-loop Inv-loop3 μ-loop3 Inv-loop2 μ-loop2
 unfolding keepsSlots
@@ -81,21 +86,26 @@ loop-again-2 c =
     let at-if3 = c .before .before .before .before .if3 in
     let at-mark = c .before .before .mark in
     let v = at-loop .inv in
-        let x = slotIn (at-args .t1) (at-loop .i) in
-        let o : x .«is_open» ≡ true = not-false (x .«is_open») (at-if1 .left) in
-        let n : at-loop .i < length (at-args .t1) = omega (arith, v .0) in
-        (v .0, length-set (at-loop .marks) (at-loop .i) _ ∙ v .1, omega arith, v .3 ∙ every-next keepsSlot _ (at-loop .i) pastSlot n (sym (kept-open x _ o (at-open-keeps-rules .ensures)) ∙ not-false _ (at-if3 .left)), marked-more (at-args .t1) (at-loop .marks) (at-loop .i) _ (omega (arith, v .1)) (v .4) (at-mark .ensures),
-        seen-next (hasKey (at-args .key)) (at-args .t1) (at-loop .found) (at-loop .i) n (search needs) (v .5) _ (c .seen2 .ensures ∙ ap (seenAt (at-loop .found) (at-loop .i)) (c .before .has-key .ensures)),
-        seen-skip isFree (at-args .t1) (at-loop .free) (at-loop .i) n (search needs) (v .6) (no-true _ o),
-        omega (arith, v .7),
-        omega (arith, v .8, count-open (at-args .t1) (at-loop .i) pastSlot n o))
+    let x = slotIn (at-args .t1) (at-loop .i) in
+    let o : x .«is_open» ≡ true = not-false (x .«is_open») (at-if1 .left) in
+    let n : at-loop .i < length (at-args .t1) = omega (arith, v .0) in (
+      v .0,
+      length-set (at-loop .marks) (at-loop .i) _ ∙ v .1,
+      omega arith,
+      v .3 ∙ every-next keepsSlot _ (at-loop .i) pastSlot n (sym (kept-open x _ o (at-open-keeps-rules .ensures)) ∙ not-false _ (at-if3 .left)),
+      marked-more (at-args .t1) (at-loop .marks) (at-loop .i) _ (omega (arith, v .1)) (v .4) (at-mark .ensures),
+      seen-next (hasKey (at-args .key)) (at-args .t1) (at-loop .found) (at-loop .i) n (search needs) (v .5) _ (c .seen2 .ensures ∙ ap (seenAt (at-loop .found) (at-loop .i)) (c .before .has-key .ensures)),
+      seen-skip isFree (at-args .t1) (at-loop .free) (at-loop .i) n (search needs) (v .6) (no-true _ o),
+      omega (arith, v .7),
+      omega (arith, v .8, count-open (at-args .t1) (at-loop .i) pastSlot n o),
+    )
 
 loop2-holds : tie.Need-loop2-holds Inv-loop μ-loop Inv-loop3 μ-loop3 Inv-loop2 μ-loop2
 loop2-holds c =
     let at-loop = c .before .loop in
     let at-args = c .before .before .args in
     let e : at-loop .i ≡ 32 = omega (arith, at-loop .inv .2) in
-        (at-loop .inv .0, at-loop .inv .1, at-loop .inv .3 ∙ ap (every keepsSlot) (past (at-args .t1) (at-loop .i) (omega (arith, at-loop .inv .0))), λ n h. at-loop .inv .4 n (omega arith), refl)
+    (at-loop .inv .0, at-loop .inv .1, at-loop .inv .3 ∙ ap (every keepsSlot) (past (at-args .t1) (at-loop .i) (omega (arith, at-loop .inv .0))), λ n h. at-loop .inv .4 n (omega arith), refl)
 
 loop3-holds : tie.Need-loop3-holds Inv-loop μ-loop Inv-loop3 μ-loop3 Inv-loop2 μ-loop2
 loop3-holds c =
@@ -110,7 +120,7 @@ loop3-again c =
     let at-loop2 = c .before .before .before .before .before .loop2 in
     let at-loop = c .before .before .before .before .before .before .before .loop in
     let v = at-loop3 .inv in
-        (v .0, v .1, v .2, v .3, v .4, v .5, v .6 ∙ twice-next (slotIn (at-args .t1) (at-loop2 .k)) (at-args .t1) (at-loop3 .j) (omega (arith, v .0)) (marks-unlike (at-args .t1) (at-loop .marks) (at-loop2 .k) (at-loop3 .j) (v .3) (v .5) (search needs) (c .if4 .taken)))
+    (v .0, v .1, v .2, v .3, v .4, v .5, v .6 ∙ twice-next (slotIn (at-args .t1) (at-loop2 .k)) (at-args .t1) (at-loop3 .j) (omega (arith, v .0)) (marks-unlike (at-args .t1) (at-loop .marks) (at-loop2 .k) (at-loop3 .j) (v .3) (v .5) (search needs) (c .if4 .taken)))
 
 returns-3 : tie.Need-returns-3 Inv-loop μ-loop Inv-loop3 μ-loop3 Inv-loop2 μ-loop2
 unfolding keepsSlots
@@ -120,7 +130,7 @@ returns-3 c =
     let at-loop2 = c .before .before .before .before .before .before .before .before .before .before .loop2 in
     let at-is-alike = c .before .before .is-alike in
     let v = at-loop3 .inv in
-        test-broken (at-args .t1) (at-args .key) _ (c .broken3 .ensures) (and-next _ _ (eq-eqb _ _ (v .0)) ∙ and-next _ _ (v .2) ∙ v .4 ∙ distinct-not (at-args .t1) (at-loop2 .k) pastSlot (omega (arith, v .0, v .5)) (v .6 ∙ twice-here (slotIn (at-args .t1) (at-loop2 .k)) (at-args .t1) (at-loop3 .j) (omega (arith, v .0)) (sym (at-is-alike .ensures) ∙ c .before .if5 .taken)))
+    test-broken (at-args .t1) (at-args .key) _ (c .broken3 .ensures) (and-next _ _ (eq-eqb _ _ (v .0)) ∙ and-next _ _ (v .2) ∙ v .4 ∙ distinct-not (at-args .t1) (at-loop2 .k) pastSlot (omega (arith, v .0, v .5)) (v .6 ∙ twice-here (slotIn (at-args .t1) (at-loop2 .k)) (at-args .t1) (at-loop3 .j) (omega (arith, v .0)) (sym (at-is-alike .ensures) ∙ c .before .if5 .taken)))
 
 loop3-again-2 : tie.Need-loop3-again-2 Inv-loop μ-loop Inv-loop3 μ-loop3 Inv-loop2 μ-loop2
 loop3-again-2 c =
@@ -128,7 +138,7 @@ loop3-again-2 c =
     let at-args = c .before .before .before .before .before .before .before .before .before .before .before .before .args in
     let at-loop2 = c .before .before .before .before .before .before .before .before .before .loop2 in
     let v = at-loop3 .inv in
-        (v .0, v .1, v .2, v .3, v .4, v .5, v .6 ∙ twice-next (slotIn (at-args .t1) (at-loop2 .k)) (at-args .t1) (at-loop3 .j) (omega (arith, v .0)) (sym (c .before .is-alike .ensures) ∙ c .if5 .left))
+    (v .0, v .1, v .2, v .3, v .4, v .5, v .6 ∙ twice-next (slotIn (at-args .t1) (at-loop2 .k)) (at-args .t1) (at-loop3 .j) (omega (arith, v .0)) (sym (c .before .is-alike .ensures) ∙ c .if5 .left))
 
 loop2-again : tie.Need-loop2-again Inv-loop μ-loop Inv-loop3 μ-loop3 Inv-loop2 μ-loop2
 loop2-again c =
@@ -136,7 +146,7 @@ loop2-again c =
     let at-args = c .before .before .before .before .before .before .before .args in
     let at-loop2 = c .before .before .before .before .loop2 in
     let v = at-loop3 .inv in
-        (v .0, v .1, v .2, v .3, v .4 ∙ distinct-next (at-args .t1) (at-loop2 .k) pastSlot (omega (arith, v .0, v .5)) (v .6 ∙ ap (twice (slotIn (at-args .t1) (at-loop2 .k))) (past (at-args .t1) (at-loop3 .j) (omega (arith, v .0))) ∙ twice-end (slotIn (at-args .t1) (at-loop2 .k))))
+    (v .0, v .1, v .2, v .3, v .4 ∙ distinct-next (at-args .t1) (at-loop2 .k) pastSlot (omega (arith, v .0, v .5)) (v .6 ∙ ap (twice (slotIn (at-args .t1) (at-loop2 .k))) (past (at-args .t1) (at-loop3 .j) (omega (arith, v .0))) ∙ twice-end (slotIn (at-args .t1) (at-loop2 .k))))
 
 returns-4 : tie.Need-returns-4 Inv-loop μ-loop Inv-loop3 μ-loop3 Inv-loop2 μ-loop2
 unfolding keepsSlots
@@ -145,9 +155,9 @@ returns-4 c =
     let at-loop = c .before .before .before .loop in
     let at-args = c .before .before .before .before .args in
     let v = at-loop2 .inv in
-        let w = at-loop .inv in
-        let n : length (at-args .t1) ≤ at-loop .i = omega (arith, w .0) in
-        test-good (at-args .t1) (at-args .key) _ _ _ (and-next _ _ (eq-eqb _ _ (v .0)) ∙ and-next _ _ (v .2) ∙ v .4 ∙ ap distinct (past (at-args .t1) (at-loop2 .k) (omega (arith, v .0)))) (seen-end (hasKey (at-args .key)) (at-args .t1) (at-loop .found) (at-loop .i) n (w .5)) (seen-end isFree (at-args .t1) (at-loop .free) (at-loop .i) n (w .6)) (omega (arith, w .8, ap openCount (past (at-args .t1) (at-loop .i) n)))
+    let w = at-loop .inv in
+    let n : length (at-args .t1) ≤ at-loop .i = omega (arith, w .0) in
+    test-good (at-args .t1) (at-args .key) _ _ _ (and-next _ _ (eq-eqb _ _ (v .0)) ∙ and-next _ _ (v .2) ∙ v .4 ∙ ap distinct (past (at-args .t1) (at-loop2 .k) (omega (arith, v .0)))) (seen-end (hasKey (at-args .key)) (at-args .t1) (at-loop .found) (at-loop .i) n (w .5)) (seen-end isFree (at-args .t1) (at-loop .free) (at-loop .i) n (w .6)) (omega (arith, w .8, ap openCount (past (at-args .t1) (at-loop .i) n)))
 
 pub test-spec : {M : Type 1} → statement M
 test-spec =

@@ -5,7 +5,6 @@ use mathlib.Core.List.{List}
 use native.Mathlib.Omega.{arith}
 use borrow.Author.Needs.{needs}
 use borrow.Author.Tests.{not-true, not-false}
-use Rattle.octets.specs.Words.{if_then_else_}
 use Rattle.octets.proofs.Tests.{if-yes, if-no}
 use Rattle.places.specs.declared.Held.{Held}
 use Rattle.rows.specs.Stream.{forceFrom, force}

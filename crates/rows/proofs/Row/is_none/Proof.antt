@@ -6,8 +6,8 @@ use borrow.Author.Tests.{eq-eqb, ne-eqb}
 use lib.ListN.{length}
 use Rattle.octets.specs.Words.{_=?_}
 use Rattle.octets.proofs.Tests.{and-next, and-not-left}
-use Rattle.rows.specs.Row.{isNoRow}
 use Rattle.octets.proofs.Lists.{unmapped}
+use Rattle.rows.specs.Row.{isNoRow}
 use Rattle.rows.proofs.Row.is_none.Statement.{statement}
 use Rattle.rows.proofs.Row.is_none.Tie as tie
 

@@ -1,7 +1,6 @@
 -- The message stands in its place, and the gap start is as the offer leaves it.
 use native.Mathlib.Omega.{arith}
 use borrow.Author.Needs.{needs}
-use Rattle.rows.specs.Stream.{offer}
 use Rattle.rows.proofs.Rules.{kept-row}
 use Rattle.rows.proofs.Steps.{accept-is}
 use Rattle.rows.proofs.calls.accept.Statement.{statement}

@@ -9,8 +9,8 @@ returns c =
     let at-args = c .before .before .before .before .before .before .before .args in
     let at-pre = c .before .before .before .before .before .before .before .pre in
     let at-without-first = c .before .before .before .before .without-first in
-    let at-wide32 = c .before .before .wide32 in
-    give-is (at-args .r) (at-pre .0) (at-pre .1) (at-args .clock) _ _ _ _ (at-without-first .ensures) (at-wide32 .ensures .0) (c .before .gap-open .ensures) (c .start-after .ensures)
+    let at-next-expected = c .before .before .next-expected in
+    give-is (at-args .r) (at-pre .0) (at-pre .1) (at-args .clock) _ _ _ _ (at-without-first .ensures) (at-next-expected .ensures) (c .before .gap-open .ensures) (c .start-after .ensures)
 
 pub give-spec : {M : Type 1} → statement M
 give-spec =
@@ -20,7 +20,6 @@ give-spec =
     (λ c κs. search needs)
     (λ c. search needs)
     (λ c κs. search needs)
-    (λ c. search needs)
     (λ c κs. search needs)
     (λ c κs. search needs)
     returns)

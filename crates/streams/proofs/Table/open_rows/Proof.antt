@@ -22,7 +22,7 @@ returns-2 c =
     let at-args = c .before .before .before .before .before .args in
     let at-test = c .before .before .test in
     let k = sym (test-good (at-args .self) _ _ (at-test .ensures)) ∙ not-false _ (c .if1 .left) in
-        ap counted (test-rows (at-args .self) _ _ (at-test .ensures) k) ∙ sym (if-no _ _ _ (no-true _ k))
+    ap counted (test-rows (at-args .self) _ _ (at-test .ensures) k) ∙ sym (if-no _ _ _ (no-true _ k))
 
 pub open-rows-spec : {M : Type 1} → statement M
 open-rows-spec = tie.close (tie.spec (λ c κs. search needs) (λ c κs. search needs) returns returns-2)

@@ -4,8 +4,8 @@ use mathlib.Core.Path.{sym, _∙_}
 use native.Mathlib.Omega.{arith}
 use borrow.Author.Needs.{needs}
 use Rattle.octets.proofs.Tests.{if-no}
-use Rattle.places.proofs.above.Statement.{statement}
-use Rattle.places.proofs.above.Tie as tie
+use Rattle.row_numbers.proofs.above.Statement.{statement}
+use Rattle.row_numbers.proofs.above.Tie as tie
 
 returns-2 : tie.Need-returns-2
 returns-2 c =

@@ -1,0 +1,3 @@
+-- The marks of an image: what the first bytes say, and one outcome each.
+pub mod Front
+pub mod Unique

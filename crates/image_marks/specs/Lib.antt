@@ -1,0 +1,2 @@
+-- Document 01, "The saved table": the marks of an image.
+pub mod Marks

@@ -1,0 +1,2 @@
+-- The numbers of a row: one outcome each.
+pub mod Unique

@@ -1,0 +1,2 @@
+-- Document 01, "Streams": the numbers of a row.
+pub mod Numbers
