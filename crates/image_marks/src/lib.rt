@@ -41,14 +41,17 @@ pub fn put_end(rows: u8, out: &mut [u8], at: usize) -> bool
     octets::copy_at(&last, out, at)
 }
 
+// How many bytes the end record has.
+const END: usize = 3;
+
 // Whether a buffer has room for records of so many bytes and for the end behind them.
 pub fn has_room(records: usize, room: usize) -> bool
     ensures { λ r. ⌜ r ≡ (records + 3 ≤? room) ⌝ }
 {
-    if room < 3 {
+    if room < END {
         return false;
     }
-    if room - 3 < records {
+    if room - END < records {
         return false;
     }
     true

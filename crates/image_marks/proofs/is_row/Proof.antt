@@ -1,6 +1,7 @@
 -- The mark and the row number, byte by byte.
 use mathlib.Core.Path.{sym, _∙_}
 use native.Mathlib.Omega.{arith}
+use lib.ListN.{getD}
 use borrow.Author.Needs.{needs}
 use borrow.Author.Tests.{eq-eqb, ne-eqb}
 use Rattle.octets.proofs.Tests.{and-next, and-not-left}
@@ -32,7 +33,7 @@ returns-4 c =
     let at-if1 = c .before .before .before .before .before .before .if1 in
     let at-if2 = c .before .before .before .before .if2 in
     let at-if3 = c .before .before .if3 in
-    sym (marked (at-args .i) (at-args .d .now) (omega (arith, at-if1 .left)) ∙ and-next _ _ (eq-eqb _ _ (at-if2 .left)) ∙ and-next _ _ (eq-eqb _ _ (at-if3 .left)) ∙ and-not-left _ _ (ne-eqb _ _ (c .if4 .taken)))
+    sym (marked (at-args .i) (at-args .d .now) (omega (arith, at-if1 .left)) ∙ and-next _ _ (eq-eqb _ _ (at-if2 .left)) ∙ and-next _ _ (eq-eqb _ _ (at-if3 .left)) ∙ and-not-left _ _ (ne-eqb (getD (at-args .d .now) 2 0) (at-args .i) (λ e. omega (arith, e, c .if4 .taken))))
 
 returns-5 : tie.Need-returns-5
 returns-5 c =
@@ -40,7 +41,7 @@ returns-5 c =
     let at-if1 = c .before .before .before .before .before .before .if1 in
     let at-if2 = c .before .before .before .before .if2 in
     let at-if3 = c .before .before .if3 in
-    sym (marked (at-args .i) (at-args .d .now) (omega (arith, at-if1 .left)) ∙ and-next _ _ (eq-eqb _ _ (at-if2 .left)) ∙ and-next _ _ (eq-eqb _ _ (at-if3 .left)) ∙ and-next _ _ (eq-eqb _ _ (c .if4 .left)))
+    sym (marked (at-args .i) (at-args .d .now) (omega (arith, at-if1 .left)) ∙ and-next _ _ (eq-eqb _ _ (at-if2 .left)) ∙ and-next _ _ (eq-eqb _ _ (at-if3 .left)) ∙ and-next _ _ (eq-eqb (getD (at-args .d .now) 2 0) (at-args .i) (omega (arith, c .if4 .left))))
 
 pub is-row-spec : {M : Type 1} → statement M
 is-row-spec =
