@@ -25,15 +25,13 @@ struct HopsFound {
 fn blank(ok: bool, count: usize) -> HopsFound
     ensures { λ r. ⌜ r ≡ record { ok = ok; used = 0; count = count; items = replicate 16 (callText []) } ⌝ }
 {
-    let none = CallText {
-        len: 0,
-        bytes: [0u8; 12],
-    };
+    let none = layout::no_hops();
+    let items = none.items;
     HopsFound {
         ok,
         used: 0,
         count,
-        items: [none; 16],
+        items,
     }
 }
 
