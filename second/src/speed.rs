@@ -23,7 +23,7 @@ extern "C" {
     fn job_redatagram(bytes: *const u8, len: usize, out: *mut u8, room: usize) -> usize;
     fn job_calls(image: *const u8, len: usize, stream: *const u8, stream_len: usize, first: u32, rounds: u32) -> usize;
     fn job_image(bytes: *const u8, len: usize, out: *mut u8, room: usize) -> usize;
-    fn job_session(bytes: *const u8, len: usize, size: usize, payload: *mut u8, reply: *mut u8) -> usize;
+    fn job_session(bytes: *const u8, len: usize, size: usize, payload: *mut u8, reply: *mut u8) -> u8;
 }
 
 /// One run of a job, in seconds for each time that it is done.
@@ -174,7 +174,7 @@ fn sessions() {
         bytes.extend(&payload);
         for (how, size, times) in [("", 8192, times), (", byte by byte", 1, times / 10)] {
             let (mut buffer, mut reply) = ([0u8; 4096], [0u8; 24]);
-            let proved = || unsafe { job_session(bytes.as_ptr(), bytes.len(), size, buffer.as_mut_ptr(), reply.as_mut_ptr()) };
+            let proved = || unsafe { job_session(bytes.as_ptr(), bytes.len(), size, buffer.as_mut_ptr(), reply.as_mut_ptr()).into() };
             let (mut buffer, mut reply) = ([0u8; 4096], [0u8; 24]);
             row(&format!("{name}{how}"), times, proved, || converse(&bytes, size, &mut buffer, &mut reply));
         }

@@ -11,7 +11,7 @@ extern "C" {
     fn job_reline(bytes: *const u8, len: usize, out: *mut u8, room: usize) -> usize;
     fn job_datagram(bytes: *const u8, len: usize) -> usize;
     fn job_redatagram(bytes: *const u8, len: usize, out: *mut u8, room: usize) -> usize;
-    fn job_session(bytes: *const u8, len: usize, size: usize, payload: *mut u8, reply: *mut u8) -> usize;
+    fn job_session(bytes: *const u8, len: usize, size: usize, payload: *mut u8, reply: *mut u8) -> u8;
     fn stack_new() -> usize;
     fn stack_offer() -> usize;
     fn stack_take() -> usize;
