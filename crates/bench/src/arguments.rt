@@ -1,28 +1,24 @@
 // The arguments of a command, by the kind that its form names:
 // B bytes, O bytes of a name, A the same or `~` for absent, S a salt or `~` for none, M a master id, and numbers from 0 to a limit:
 // N 4294967295, H 65535, L the store's size, R 16,384, P the payload buffer's size, Q the reply buffer's, Y 255.
-use crate::command::BAD;
+use crate::buffers;
 use crate::command::Command;
-use crate::command::Place;
-use crate::command::within;
-use crate::state;
 ghost use Prim.Native.Nat.{_-_, _≤_};
 ghost use lib.ListN.{length};
 
-// The longest argument once decoded.
-pub(crate) const LONGEST_BYTES: usize = 16384;
+// What no word stands for: it is above every limit.
+const NONE: usize = 18446744073709551615;
 
-// The longest originator or stream id once decoded.
-const LONGEST_NAME: usize = 512;
-
-// The largest number of each kind.
-fn limit(kind: u8) -> u64 {
+// The largest number of each kind, or the most bytes once decoded.
+fn limit(kind: u8) -> usize {
     match kind {
+        b'A' | b'O' => 512,
+        b'B' | b'R' => buffers::ROOM,
         b'H' => 65535,
-        b'L' => node::STORE as u64,
-        b'R' => LONGEST_BYTES as u64,
-        b'P' => state::PAYLOAD as u64,
-        b'Q' => state::REPLY as u64,
+        b'L' => buffers::STORE,
+        b'M' => 268435455,
+        b'P' => buffers::PAYLOAD,
+        b'Q' => buffers::REPLY,
         b'Y' => 255,
         _ => 4294967295,
     }
@@ -30,58 +26,22 @@ fn limit(kind: u8) -> u64 {
 
 // The command with one argument more, whose word begins at the place `at` of the line; no command where the word is not of its kind.
 pub(crate) fn with_argument(c: Command, kind: u8, word: &mut [u8], at: usize) -> Command {
-    if c.verb == BAD {
+    let most = limit(kind);
+    match kind {
+        b'A' => with_optional(c, word, at, most),
+        b'B' | b'O' => c.with_bytes(at, decode(word), most),
+        b'M' => c.with_number(master_id(word), most),
+        b'S' => with_salt(c, word),
+        _ => c.with_number(number(word), most),
+    }
+}
+
+fn with_optional(mut c: Command, word: &mut [u8], at: usize, most: usize) -> Command {
+    if is_byte(word, b'~') {
+        c.is_absent = true;
         return c;
     }
-    match kind {
-        b'B' => with_bytes(c, word, at, LONGEST_BYTES),
-        b'O' => with_bytes(c, word, at, LONGEST_NAME),
-        b'A' => with_optional(c, word, at),
-        b'S' => with_salt(c, word),
-        b'M' => with_number(c, master_id(word), 268435455),
-        _ => with_number(c, number(word), limit(kind)),
-    }
-}
-
-// A number, where there is one.
-enum Read {
-    Is(u64),
-    Malformed,
-}
-
-fn with_number(c: Command, n: Read, most: u64) -> Command {
-    match n {
-        Read::Is(v) => {
-            if v > most {
-                return Command::new(BAD);
-            }
-            if v > 4294967295 {
-                return Command::new(BAD);
-            }
-            c.with_number(v as u32)
-        }
-        Read::Malformed => Command::new(BAD),
-    }
-}
-
-fn with_bytes(c: Command, word: &mut [u8], at: usize, most: usize) -> Command {
-    let d = decode(word);
-    match d {
-        Decoded::Bytes(len) => {
-            if len > most {
-                return Command::new(BAD);
-            }
-            c.with_place(Place { at, len })
-        }
-        Decoded::Malformed => Command::new(BAD),
-    }
-}
-
-fn with_optional(c: Command, word: &mut [u8], at: usize) -> Command {
-    if is_byte(word, b'~') {
-        return c.without_first();
-    }
-    with_bytes(c, word, at, LONGEST_NAME)
+    c.with_bytes(at, decode(word), most)
 }
 
 // Whether a word is this byte alone.
@@ -93,38 +53,53 @@ fn is_byte(word: &[u8], b: u8) -> bool {
 }
 
 // A decimal without leading zero.
-fn number(word: &[u8]) -> Read {
+fn number(word: &[u8]) -> usize {
     if word.len() == 0 {
-        return Read::Malformed;
+        return NONE;
     }
     if word[0] == b'0' && word.len() > 1 {
-        return Read::Malformed;
+        return NONE;
     }
-    let mut v: u64 = 0;
+    digits(word, 10)
+}
+
+// The number whose digits to the base 10 or 16 are a word.
+fn digits(word: &[u8], base: usize) -> usize {
+    let mut v: usize = 0;
     let mut i: usize = 0;
     while i < word.len() {
-        let d = digit(word[i], b'A');
-        if d > 9 {
-            return Read::Malformed;
-        }
-        if v > 1844674407370955160 {
-            return Read::Malformed;
-        }
-        v = v * 10 + d;
+        v = with_digit(v, base, digit(word[i], b'a'));
         i += 1;
     }
-    Read::Is(v)
+    v
+}
+
+// A number with one digit more. None is so large before its last digit as 2 ^ 63 / 10.
+fn with_digit(v: usize, base: usize, d: usize) -> usize {
+    if v > 922337203685477580 {
+        return NONE;
+    }
+    if d >= base {
+        return NONE;
+    }
+    if d > 15 {
+        return NONE;
+    }
+    if base == 10 {
+        return v * 10 + d;
+    }
+    v * 16 + d
 }
 
 // What a hexadecimal digit is worth, whose letters begin at `a`; 16 for a byte that is none.
-fn digit(b: u8, a: u8) -> u64
+fn digit(b: u8, a: u8) -> usize
     ensures { λ r. ⌜ r ≤ 16 ⌝ }
 {
     if b < b'0' {
         return 16;
     }
     if b <= b'9' {
-        return (b - b'0') as u64;
+        return (b - b'0') as usize;
     }
     if b < a {
         return 16;
@@ -132,7 +107,7 @@ fn digit(b: u8, a: u8) -> u64
     if b - a > 5 {
         return 16;
     }
-    (b - a) as u64 + 10
+    (b - a) as usize + 10
 }
 
 // A salt, or `~` for none.
@@ -141,7 +116,7 @@ fn with_salt(c: Command, word: &[u8]) -> Command {
         return c;
     }
     if word.len() == 0 {
-        return Command::new(BAD);
+        return c.bad();
     }
     if word[0] == b'-' {
         return with_negative(c, number(&word[1..]));
@@ -149,67 +124,36 @@ fn with_salt(c: Command, word: &[u8]) -> Command {
     with_positive(c, number(word))
 }
 
-fn with_positive(c: Command, n: Read) -> Command {
-    match n {
-        Read::Is(v) => {
-            if v > 9223372036854775807 {
-                return Command::new(BAD);
-            }
-            c.with_salt(v as i64)
-        }
-        Read::Malformed => Command::new(BAD),
+fn with_positive(mut c: Command, v: usize) -> Command {
+    if v > 9223372036854775807 {
+        return c.bad();
     }
+    c.has_salt = true;
+    c.salt = v as i64;
+    c
 }
 
-fn with_negative(c: Command, n: Read) -> Command {
-    match n {
-        Read::Is(v) => {
-            if v == 0 {
-                return Command::new(BAD);
-            }
-            if v > 9223372036854775808 {
-                return Command::new(BAD);
-            }
-            c.with_salt(!((v - 1) as i64))
-        }
-        Read::Malformed => Command::new(BAD),
+fn with_negative(mut c: Command, v: usize) -> Command {
+    if v == 0 {
+        return c.bad();
     }
-}
-
-// Bytes that stand at a word's front.
-enum Decoded {
-    Bytes(usize),
-    Malformed,
+    if v > 9223372036854775808 {
+        return c.bad();
+    }
+    c.has_salt = true;
+    c.salt = !((v - 1) as i64);
+    c
 }
 
 // A master id: bytes that are 7 of `0-9a-f`.
-fn master_id(word: &mut [u8]) -> Read {
-    let d = decode(word);
-    match d {
-        Decoded::Bytes(n) => {
-            if n != 7 {
-                return Read::Malformed;
-            }
-            hex_number(word)
-        }
-        Decoded::Malformed => Read::Malformed,
+fn master_id(word: &mut [u8]) -> usize {
+    if decode(word) != 7 {
+        return NONE;
     }
-}
-
-// The number that a word's first 7 bytes write in digits of `0-9a-f`.
-fn hex_number(word: &[u8]) -> Read {
-    let n = within(7, word.len());
-    let mut v: u64 = 0;
-    let mut i: usize = 0;
-    while i < n {
-        let d = digit(word[i], b'a');
-        if d > 15 {
-            return Read::Malformed;
-        }
-        v = v % 268435456 * 16 + d;
-        i += 1;
+    if word.len() < 7 {
+        return NONE;
     }
-    Read::Is(v)
+    digits(&word[0..7], 16)
 }
 
 // What stands at a place of a word, and how many of its bytes that takes; 0 where it stands for nothing.
@@ -258,13 +202,13 @@ fn spelled(word: &[u8], at: usize) -> Spelling
     }
 }
 
-// The bytes that a word stands for, written over its front: `-` is no bytes.
-fn decode(word: &mut [u8]) -> Decoded {
+// The number of bytes that a word stands for, which are written over its front: `-` is no bytes.
+fn decode(word: &mut [u8]) -> usize {
     if word.len() == 0 {
-        return Decoded::Malformed;
+        return NONE;
     }
     if is_byte(word, b'-') {
-        return Decoded::Bytes(0);
+        return 0;
     }
     let mut n: usize = 0;
     let mut i: usize = 0;
@@ -272,11 +216,11 @@ fn decode(word: &mut [u8]) -> Decoded {
         let s = spelled(word, i);
         let width = s.width;
         if width == 0 {
-            return Decoded::Malformed;
+            return NONE;
         }
         word[n] = s.byte;
         n += 1;
         i += width;
     }
-    Decoded::Bytes(n)
+    n
 }

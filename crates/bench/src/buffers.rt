@@ -1,42 +1,53 @@
-// The commands on the lent buffers: `lend`, `store`, `fill` and `peek`.
-use crate::answer;
-use crate::answer::Answer;
-use crate::command::size;
-use crate::state::Done;
-use crate::state::Lent;
-use crate::state::PAYLOAD;
-use crate::state::REPLY;
-use crate::state::State;
+// The buffers that calls are lent parts of, and the commands on them: `lend`, `store`, `fill` and `peek`. They stand in two memories, of which a
+// call is lent one part each: in `memory` the fragment store and the payload buffer, in `out` the reply buffer and the room for an
+// answer's bytes, one behind the other.
+use crate::command::Command;
+use crate::forms;
+use crate::say;
+use crate::say::say;
+use crate::say::say_bytes;
 
-pub(crate) fn lend(kept: State, n: [u32; 4]) -> Done {
-    kept.lends(lengths(kept.lent, n), answer::said(b"lent"))
+pub(crate) const STORE: usize = node::STORE;
+
+pub(crate) const PAYLOAD: usize = node::LONGEST_PAYLOAD;
+
+pub(crate) const MEMORY: usize = STORE + PAYLOAD;
+
+pub(crate) const REPLY: usize = 64;
+
+pub(crate) const ROOM: usize = 16384;
+
+pub(crate) const OUT: usize = REPLY + ROOM;
+
+// How many bytes of each buffer are lent.
+pub(crate) struct Lent {
+    pub(crate) payload: usize,
+    pub(crate) reply: usize,
+    pub(crate) store: usize,
 }
 
-fn lengths(lent: Lent, n: [u32; 4]) -> Lent {
-    let mut after = lent;
-    after.payload_len = size(n[0]);
-    after.reply_len = size(n[1]);
-    after
+// The command's `lend` or `store`.
+pub(crate) fn lend(c: Command, mut lent: Lent) -> Lent {
+    if c.verb == forms::LEND {
+        lent.payload = c.z as usize;
+        lent.reply = c.t as usize;
+        say(say::LENT);
+        return lent;
+    }
+    if c.verb == forms::STORE {
+        lent.store = c.t as usize;
+        say(say::LENT);
+        return lent;
+    }
+    lent
 }
 
-pub(crate) fn lend_store(kept: State, n: [u32; 4]) -> Done {
-    let mut after = kept;
-    after.store_lent = size(n[0]);
-    after.says(answer::said(b"lent"))
-}
-
-// Every byte of the three buffers.
-pub(crate) fn fill(kept: State, store: &mut [u8], n: [u32; 4]) -> Done {
-    let b = (n[0] % 256) as u8;
-    fill_all(store, b);
-    kept.lends(filled(kept.lent, b), answer::said(b"filled"))
-}
-
-fn filled(lent: Lent, b: u8) -> Lent {
-    let mut after = lent;
-    after.payload = [b; PAYLOAD];
-    after.reply = [b; REPLY];
-    after
+// Every byte of all buffers.
+pub(crate) fn fill(memory: &mut [u8], out: &mut [u8], n: u32) {
+    let b = (n % 256) as u8;
+    fill_all(memory, b);
+    fill_all(out, b);
+    say(say::FILLED);
 }
 
 fn fill_all(s: &mut [u8], b: u8) {
@@ -47,25 +58,17 @@ fn fill_all(s: &mut [u8], b: u8) {
     }
 }
 
-pub(crate) fn peek_payload(lent: Lent, n: [u32; 4]) -> Answer {
-    let payload = lent.payload;
-    peek(&payload, n)
-}
-
-pub(crate) fn peek_reply(lent: Lent, n: [u32; 4]) -> Answer {
-    let reply = lent.reply;
-    peek(&reply, n)
-}
-
 // The bytes that a command asks for of a buffer.
-pub(crate) fn peek(buffer: &[u8], n: [u32; 4]) -> Answer {
-    let at = size(n[0]);
-    let len = size(n[1]);
-    if at > buffer.len() {
-        return answer::bad();
+pub(crate) fn peek(buffer: &[u8], at: u32, len: u32) {
+    let from = at as usize;
+    let n = len as usize;
+    if from > buffer.len() {
+        say(say::BAD_COMMAND);
+        return;
     }
-    if buffer.len() - at < len {
-        return answer::bad();
+    if buffer.len() - from < n {
+        say(say::BAD_COMMAND);
+        return;
     }
-    answer::said(b"bytes ").front(&buffer[at..at + len], len)
+    say_bytes(say::BYTES, &buffer[from..], n);
 }

@@ -1,24 +1,25 @@
-// A command by value: which it is, and its arguments in the order of the line, as numbers and as places of the decoded line.
-use crate::arguments::LONGEST_BYTES;
+// A command by value: which it is, and its arguments, as numbers and as places of the decoded line.
 ghost use Prim.Native.Nat.{_≤_};
 
 // The number of a command that is none.
 pub(crate) const BAD: u8 = 255;
 
-// Where an argument's bytes stand in the decoded line.
-pub(crate) struct Place {
-    pub(crate) at: usize,
-    pub(crate) len: usize,
-}
+// The number of a line that has no answer.
+pub(crate) const SILENT: u8 = 254;
 
-// The verb is the number of the command's form. An absent argument has no bytes; only the first can be absent.
+// The verb is the number of the command's form. Its last number is `t`, which is a time or a room; the numbers before it are `z`, `y`, `x`. Its
+// last bytes stand at the place `b_at` of the line, those before it at `a_at`. An absent argument is no bytes.
 pub(crate) struct Command {
     pub(crate) verb: u8,
-    pub(crate) numbers: [u32; 4],
-    pub(crate) counted: usize,
-    pub(crate) places: [Place; 2],
-    pub(crate) placed: usize,
-    pub(crate) has_first: bool,
+    pub(crate) x: u32,
+    pub(crate) y: u32,
+    pub(crate) z: u32,
+    pub(crate) t: u32,
+    pub(crate) a_at: usize,
+    pub(crate) a_len: usize,
+    pub(crate) b_at: usize,
+    pub(crate) b_len: usize,
+    pub(crate) is_absent: bool,
     pub(crate) has_salt: bool,
     pub(crate) salt: i64,
 }
@@ -26,71 +27,68 @@ pub(crate) struct Command {
 impl Command {
     // A command without arguments.
     pub(crate) fn new(verb: u8) -> Command {
-        let none = Place { at: 0, len: 0 };
         Command {
             verb,
-            numbers: [0u32; 4],
-            counted: 0,
-            places: [none; 2],
-            placed: 0,
-            has_first: true,
+            x: 0,
+            y: 0,
+            z: 0,
+            t: 0,
+            a_at: 0,
+            a_len: 0,
+            b_at: 0,
+            b_len: 0,
+            is_absent: false,
             has_salt: false,
             salt: 0,
         }
     }
 
-    // With one number more.
-    pub(crate) fn with_number(mut self, n: u32) -> Command {
-        let k = self.counted;
-        if k < 4 {
-            self.numbers[k] = n;
-            self.counted = k + 1;
+    // Not a command after all.
+    pub(crate) fn bad(mut self) -> Command {
+        self.verb = BAD;
+        self
+    }
+
+    // With one number more, which has to keep its limit.
+    pub(crate) fn with_number(mut self, v: usize, limit: usize) -> Command {
+        if v > limit {
+            return self.bad();
         }
-        self
-    }
-
-    // With the bytes of one argument more.
-    pub(crate) fn with_place(mut self, place: Place) -> Command {
-        let k = self.placed;
-        if k < 2 {
-            self.places[k] = place;
-            self.placed = k + 1;
+        if v > 4294967295 {
+            return self.bad();
         }
+        self.x = self.y;
+        self.y = self.z;
+        self.z = self.t;
+        self.t = v as u32;
         self
     }
 
-    // With an argument that is absent, and is the first.
-    pub(crate) fn without_first(mut self) -> Command {
-        self.has_first = false;
-        self.placed = 1;
-        self
-    }
-
-    // With a salt.
-    pub(crate) fn with_salt(mut self, salt: i64) -> Command {
-        self.has_salt = true;
-        self.salt = salt;
+    // With the bytes of one argument more, whose number has to keep its limit.
+    pub(crate) fn with_bytes(mut self, at: usize, len: usize, limit: usize) -> Command {
+        if len > limit {
+            return self.bad();
+        }
+        self.a_at = self.b_at;
+        self.a_len = self.b_len;
+        self.b_at = at;
+        self.b_len = len;
         self
     }
 }
 
-// A number as a length.
-pub(crate) fn size(n: u32) -> usize {
-    n as usize
+// The part of some bytes that begins at `at` and has `len` of them, or as many as there are.
+pub(crate) fn part(s: &[u8], at: usize, len: usize) -> &[u8] {
+    let from = within(at, s.len());
+    let n = within(len, s.len() - from);
+    &s[from..from + n]
 }
 
-// A number as the length of a part of the room that an answer's bytes are made in.
-pub(crate) fn room(n: u32) -> usize
-    ensures { λ r. ⌜ r ≤ 16384 ⌝ }
-{
-    within(n as usize, LONGEST_BYTES)
-}
-
-// The bytes of an argument.
-pub(crate) fn bytes(line: &[u8], place: Place) -> &[u8] {
-    let at = within(place.at, line.len());
-    let n = within(place.len, line.len() - at);
-    &line[at..at + n]
+// The same part, lent.
+pub(crate) fn lent(s: &mut [u8], at: usize, len: usize) -> &mut [u8] {
+    let from = within(at, s.len());
+    let n = within(len, s.len() - from);
+    &mut s[from..from + n]
 }
 
 // The lesser of a length that is asked for and the one that is there.

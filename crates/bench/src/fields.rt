@@ -1,7 +1,12 @@
 // The fields of a line and of a datagram: ` key=value` for each that is there.
-use crate::answer;
-use crate::answer::Answer;
 use crate::command::within;
+use crate::say;
+use crate::say::say;
+use crate::say::say_bytes;
+use crate::say::say_id;
+use crate::say::say_number;
+use crate::say::say_salt;
+use crate::say::say_size;
 use node::AddressText;
 use node::CallText;
 use node::Datagram;
@@ -12,149 +17,116 @@ use node::Hops;
 use node::Line;
 use node::StreamText;
 
-// FIELDS of a line.
-pub(crate) fn put_line(a: Answer, m: Line) -> Answer {
-    let f = m.fields;
-    let b = put_salt(
-        a.id(b" id=", f.id).keyed(b" len=", m.len),
-        f.has_salt,
-        f.salt,
-    );
-    let c = put_number(b, f.has_ttl, b" ttl=", f.ttl);
-    let d = put_groups(put_call(c, f.has_src, b" src=", f.src), f);
-    put_dst(d, f.dst)
+// FIELDS of a line, behind a word.
+pub(crate) fn say_line(word: u8, m: Line) {
+    say(word);
+    say_id(say::ID, m.fields.id);
+    say_number(say::LEN, m.len);
+    say_salt(m.fields.has_salt, m.fields.salt);
+    number_if(m.fields.has_ttl, say::TTL, m.fields.ttl);
+    call_if(m.fields.has_src, say::SRC, m.fields.src);
+    say_groups(m.fields);
+    say_dst(m.fields.dst);
 }
 
-// `ok` and the FIELDS of a datagram.
-pub(crate) fn put_datagram(m: Datagram, at: usize, len: usize) -> Answer {
-    let f = m.fields;
-    let a = put_salt(answer::said(b"ok").id(b" id=", f.id), f.has_salt, f.salt);
-    let b = put_dst(put_number(a, f.has_ttl, b" ttl=", f.ttl), f.dst);
-    let c = put_way(put_call(b, f.has_src, b" src=", f.src), m);
-    let d = put_groups(c, f).text(b" payload=");
-    d.number(at as u64).byte(b'+').number(len as u64)
+// `ok` and the FIELDS of a datagram, whose payload has `len` bytes from the place `at` on.
+pub(crate) fn say_datagram(m: Datagram, at: usize, len: usize) {
+    say(say::OK);
+    say_head(m.fields);
+    call_if(m.has_link, say::LINK, m.link);
+    number_if(m.has_flood, say::FLOOD, m.flood as u32);
+    hops_if(m.has_route, say::ROUTE, m.route);
+    hops_if(m.has_hops, say::HOPS, m.hops);
+    say_groups(m.fields);
+    say_size(say::PAYLOAD, at);
+    say_size(say::PLUS, len);
 }
 
-pub(crate) fn put_salt(a: Answer, on: bool, salt: i64) -> Answer {
-    if !on {
-        return a;
+// The fields that a datagram begins with.
+fn say_head(f: Envelope) {
+    say_id(say::ID, f.id);
+    say_salt(f.has_salt, f.salt);
+    number_if(f.has_ttl, say::TTL, f.ttl);
+    say_dst(f.dst);
+    call_if(f.has_src, say::SRC, f.src);
+}
+
+fn number_if(on: bool, key: u8, n: u32) {
+    if on {
+        say_number(key, n);
     }
-    a.text(b" s=").signed(salt)
 }
 
-fn put_number(a: Answer, on: bool, key: &[u8], n: u32) -> Answer {
-    if !on {
-        return a;
-    }
-    a.keyed(key, n)
-}
-
-fn put_dst(a: Answer, t: AddressText) -> Answer {
+fn say_dst(t: AddressText) {
     let bytes = t.bytes;
-    a.text(b" dst=").front(&bytes, t.len)
+    say_bytes(say::DST, &bytes, t.len);
 }
 
-fn put_call(a: Answer, on: bool, key: &[u8], t: CallText) -> Answer {
-    if !on {
-        return a;
+fn call_if(on: bool, key: u8, t: CallText) {
+    if on {
+        say_call(key, t);
     }
+}
+
+fn say_call(key: u8, t: CallText) {
     let bytes = t.bytes;
-    a.text(key).front(&bytes, t.len)
+    say_bytes(key, &bytes, t.len);
 }
 
 // The fragment, the stream and the headers, which follow each other in a line as in a datagram.
-fn put_groups(a: Answer, f: Envelope) -> Answer {
-    let sid = f.sid;
-    let headers = f.headers;
-    let o = put_fragment(a, f.has_fragment, f.mid, f.index, f.total);
-    let p = put_stream(o, f.has_stream, sid, f.sn, f.gt);
-    put_headers(p, headers)
-}
-
-fn put_fragment(a: Answer, on: bool, mid: u32, index: u16, total: u16) -> Answer {
-    if !on {
-        return a;
+fn say_groups(f: Envelope) {
+    if f.has_fragment {
+        say_id(say::MID, f.mid);
+        say_number(say::FRAG, f.index as u32);
+        say_number(say::OF, f.total as u32);
     }
-    a.id(b" mid=", mid)
-        .keyed(b" frag=", index as u32)
-        .keyed(b"/", total as u32)
-}
-
-fn put_stream(a: Answer, on: bool, sid: StreamText, sn: u32, gt: u32) -> Answer {
-    if !on {
-        return a;
+    if f.has_stream {
+        say_stream(f.sid);
+        say_number(say::SN, f.sn);
+        say_number(say::GT, f.gt);
     }
-    let bytes = sid.bytes;
-    a.text(b" sid=")
-        .front(&bytes, sid.len)
-        .keyed(b" sn=", sn)
-        .keyed(b" gt=", gt)
+    say_headers(f.headers);
 }
 
-fn put_headers(a: Answer, h: Headers) -> Answer {
+fn say_stream(t: StreamText) {
+    let bytes = t.bytes;
+    say_bytes(say::SID, &bytes, t.len);
+}
+
+fn say_headers(h: Headers) {
+    let items = h.items;
     let n = within(h.count, 8);
-    let mut o = a;
     let mut i: usize = 0;
     while i < n {
-        o = put_header(o, header_at(h, i));
+        say_header(items[i]);
         i += 1;
     }
-    o
 }
 
-fn header_at(h: Headers, i: usize) -> Header {
-    if i < 8 {
-        return h.items[i];
-    }
-    h.items[0]
-}
-
-fn put_header(a: Answer, h: Header) -> Answer {
+fn say_header(h: Header) {
     let key = h.key;
     let value = h.value;
-    a.text(b" +")
-        .front(&key, h.key_len)
-        .byte(b'=')
-        .front(&value, h.value_len)
+    say_bytes(say::HEADER, &key, h.key_len);
+    say_bytes(say::IS, &value, h.value_len);
 }
 
-// The fields that only a datagram has.
-fn put_way(a: Answer, m: Datagram) -> Answer {
-    let link = m.link;
-    let route = m.route;
-    let hops = m.hops;
-    let o = put_call(a, m.has_link, b" link=", link);
-    let p = put_number(o, m.has_flood, b" flood=", m.flood as u32);
-    let q = put_hops(p, m.has_route, b" route=", route);
-    put_hops(q, m.has_hops, b" hops=", hops)
-}
-
-// A list of hops, a comma between; `-` where it is empty.
-fn put_hops(a: Answer, on: bool, key: &[u8], h: Hops) -> Answer {
+// A list of hops; `-` where it is empty. The key stands before the first hop, a comma before every other.
+fn hops_if(on: bool, key: u8, h: Hops) {
     if !on {
-        return a;
+        return;
     }
     if h.count == 0 {
-        return a.text(key).byte(b'-');
+        say(key);
+        say(say::NONE);
+        return;
     }
+    let items = h.items;
     let n = within(h.count, 16);
-    let mut o = a.text(key);
+    let mut before = key;
     let mut i: usize = 0;
     while i < n {
-        o = put_hop(o, h, i);
+        say_call(before, items[i]);
+        before = say::COMMA;
         i += 1;
     }
-    o
-}
-
-// A comma stands before every hop but the first.
-fn put_hop(a: Answer, h: Hops, i: usize) -> Answer {
-    if i >= 16 {
-        return a;
-    }
-    let t = h.items[i];
-    if i == 0 {
-        return put_call(a, true, b"", t);
-    }
-    put_call(a, true, b",", t)
 }

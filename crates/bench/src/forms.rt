@@ -2,8 +2,13 @@
 use crate::arguments;
 use crate::command::BAD;
 use crate::command::Command;
+use crate::command::SILENT;
+use crate::command::within;
 ghost use Prim.Native.Nat.{_≤_};
 ghost use lib.ListN.{length};
+
+// A longer line is one `bad command`.
+pub(crate) const LONGEST_LINE: usize = 49999;
 
 // The numbers of the forms, in the order of the table in `parse`.
 pub(crate) const SHA1: u8 = 0;
@@ -56,9 +61,19 @@ pub(crate) const COLLECT: u8 = 23;
 
 pub(crate) const SWEEP: u8 = 24;
 
-// The command that a line is, its bytes decoded where they stand. Each form is a line: the command's words, then a capital for each
-// argument, whose kinds are told in `arguments`.
-pub(crate) fn parse(line: &mut [u8]) -> Command {
+// The command that the first `len` bytes of a line are, its bytes decoded where they stand. An empty line and a comment have no answer.
+// Each form is a line: the command's words, then a capital for each argument, whose kinds are told in `arguments`.
+pub(crate) fn parse(line: &mut [u8], len: usize) -> Command {
+    if len > LONGEST_LINE {
+        return Command::new(BAD);
+    }
+    let n = within(len, line.len());
+    if n == 0 {
+        return Command::new(SILENT);
+    }
+    if line[0] == b'#' {
+        return Command::new(SILENT);
+    }
     let forms = b"sha1 B
 crc B
 utf8 B
@@ -83,116 +98,73 @@ save R
 load B
 fragment AMHHNB
 collect AMR
-sweep N
-";
-    parse_by(forms, line)
-}
-
-// Where the search for a line's form stands: the form's number, the place of the line behind what the form's words matched, whether
-// they part from the line, and whether the form is the one.
-struct Search {
-    verb: u8,
-    at: usize,
-    parted: bool,
-    found: bool,
-}
-
-impl Search {
-    // At the start of the form of that number.
-    fn start(verb: u8) -> Search {
-        Search {
-            verb,
-            at: 0,
-            parted: false,
-            found: false,
-        }
-    }
-
-    // At the end of a form without arguments, which the line must have too.
-    fn end(mut self, line: &[u8]) -> Search {
-        let at = self.at;
-        if self.parted {
-            return Search::start(std::num::wrapping_add_u8(self.verb, 1));
-        }
-        if at != line.len() {
-            return Search::start(std::num::wrapping_add_u8(self.verb, 1));
-        }
-        self.at = at + 1;
-        self.found = true;
-        self
-    }
-
-    // After one byte more of the forms.
-    fn step(mut self, b: u8, line: &[u8]) -> Search {
-        if b == b'\n' {
-            return self.end(line);
-        }
-        if self.parted {
-            return self;
-        }
-        if b <= b'Z' && b >= b'A' {
-            self.found = true;
-            return self;
-        }
-        let at = self.at;
-        if at >= line.len() {
-            self.parted = true;
-            return self;
-        }
-        if line[at] != b {
-            self.parted = true;
-            return self;
-        }
-        self.at = at + 1;
-        self
-    }
+sweep N";
+    parse_by(forms, &mut line[0..n])
 }
 
 // The command of the first form whose words the line begins with.
 fn parse_by(forms: &[u8], line: &mut [u8]) -> Command {
-    let mut s = Search::start(0);
-    let mut i: usize = 0;
-    while i < forms.len() {
-        s = s.step(forms[i], line);
-        if s.found {
-            return parse_rest(&forms[i..], line, s.at, s.verb);
+    let mut verb: u8 = 0;
+    let mut at: usize = 0;
+    while at < forms.len() {
+        let end = end_of(forms, at, b'\n');
+        let from = behind_words(&forms[at..end], line);
+        if from > 0 {
+            return parse_rest(&forms[at..end], line, from, verb);
         }
-        i += 1;
+        verb = std::num::wrapping_add_u8(verb, 1);
+        at = end + 1;
     }
     Command::new(BAD)
 }
 
-// The command of that number whose arguments begin at the place `from`.
-fn parse_rest(kinds: &[u8], line: &mut [u8], from: usize, verb: u8) -> Command {
+// The place behind a form's words, in the form and in a line that begins with them; 0 where the line does not.
+fn behind_words(form: &[u8], line: &[u8]) -> usize {
+    let mut i: usize = 0;
+    while i < form.len() {
+        let b = form[i];
+        if b <= b'Z' && b >= b'A' {
+            return i;
+        }
+        if i >= line.len() {
+            return 0;
+        }
+        if line[i] != b {
+            return 0;
+        }
+        i += 1;
+    }
+    i + 1
+}
+
+// The command of that number whose arguments begin at the place `from`, of the form as of the line.
+fn parse_rest(form: &[u8], line: &mut [u8], from: usize, verb: u8) -> Command {
     let mut c = Command::new(verb);
     let mut at = from;
-    let mut i: usize = 0;
-    while i < kinds.len() {
-        if kinds[i] == b'\n' {
-            break;
-        }
+    let mut i = from;
+    while i < form.len() {
         if at > line.len() {
-            return Command::new(BAD);
+            return c.bad();
         }
-        let end = word_end(line, at);
-        c = arguments::with_argument(c, kinds[i], &mut line[at..end], at);
+        let end = end_of(line, at, b' ');
+        c = arguments::with_argument(c, form[i], &mut line[at..end], at);
         at = end + 1;
         i += 1;
     }
     if at <= line.len() {
-        return Command::new(BAD);
+        return c.bad();
     }
     c
 }
 
-// Where the word that begins at the place `at` ends: at the next space, or with the line.
-fn word_end(line: &[u8], at: usize) -> usize
-    requires { ⌜ at ≤ length (now line) ⌝ }
-    ensures { λ r. ⌜ (at ≤ r) × (r ≤ length (now (line .entry))) ⌝ }
+// Where what begins at the place `at` ends: at the next `stop`, or with the bytes.
+pub(crate) fn end_of(s: &[u8], at: usize, stop: u8) -> usize
+    requires { ⌜ at ≤ length (now s) ⌝ }
+    ensures { λ r. ⌜ (at ≤ r) × (r ≤ length (now (s .entry))) ⌝ }
 {
     let mut i = at;
-    while i < line.len() {
-        if line[i] == b' ' {
+    while i < s.len() {
+        if s[i] == stop {
             return i;
         }
         i += 1;

@@ -1,78 +1,82 @@
 // The commands on the fragment groups and their store: `fragment`, `collect` and `sweep`.
-use crate::answer;
-use crate::answer::Answer;
-use crate::arguments::LONGEST_BYTES;
-use crate::command::room;
-use crate::command::size;
-use crate::command::within;
-use crate::state::Done;
-use crate::state::State;
+use crate::buffers;
+use crate::command::Command;
+use crate::command::lent;
+use crate::command::part;
+use crate::forms;
+use crate::say;
+use crate::say::refused;
+use crate::say::say;
+use crate::say::say_bytes;
 use node::GroupAnswer;
+use node::Groups;
 use node::GroupsServed;
 
-// The state with the groups of a call, and what the call came to; a collected group stands at the front of `joined`.
-fn served(kept: State, s: GroupsServed, joined: [u8; LONGEST_BYTES]) -> Done {
-    let mut after = kept;
-    let groups = s.groups;
-    let answer = s.answer;
-    after.groups = groups;
-    after.says(came_to(answer, joined))
-}
-
-fn came_to(answer: GroupAnswer, joined: [u8; LONGEST_BYTES]) -> Answer {
-    match answer {
-        GroupAnswer::Added(_) => answer::said(b"accepted"),
-        GroupAnswer::Collected(_, n) => answer::said(b"joined ").room(&joined, n),
-        GroupAnswer::Swept => answer::said(b"swept"),
-        GroupAnswer::Refused(number) => answer::refused(number),
+pub(crate) fn obey(
+    c: Command,
+    line: &[u8],
+    groups: Groups,
+    store_len: usize,
+    memory: &mut [u8],
+    out: &mut [u8],
+) -> Groups {
+    let verb = c.verb;
+    let a = part(line, c.a_at, c.a_len);
+    let b = part(line, c.b_at, c.b_len);
+    match verb {
+        forms::FRAGMENT => fragment(c, a, b, groups, lent(memory, 0, store_len)),
+        forms::COLLECT => collect(
+            c,
+            b,
+            groups,
+            lent(memory, 0, store_len),
+            lent(out, buffers::REPLY, c.t as usize),
+        ),
+        forms::SWEEP => served(node::sweep_groups(groups, c.t), b),
+        _ => groups,
     }
 }
 
-pub(crate) fn fragment(
-    kept: State,
-    store: &mut [u8],
-    has_originator: bool,
+fn fragment(
+    c: Command,
     originator: &[u8],
     bytes: &[u8],
-    n: [u32; 4],
-) -> Done {
-    let k = within(kept.store_lent, store.len());
+    groups: Groups,
+    store: &mut [u8],
+) -> Groups {
     let s = node::add_fragment(
-        kept.groups,
-        &mut store[0..k],
-        has_originator,
+        groups,
+        store,
+        !c.is_absent,
         originator,
-        n[0],
-        size(n[1]),
-        size(n[2]),
+        c.x,
+        c.y as usize,
+        c.z as usize,
         bytes,
-        n[3],
+        c.t,
     );
-    served(kept, s, [0u8; LONGEST_BYTES])
+    served(s, bytes)
 }
 
-pub(crate) fn collect(
-    kept: State,
-    store: &[u8],
-    has_originator: bool,
+fn collect(
+    c: Command,
     originator: &[u8],
-    n: [u32; 4],
-) -> Done {
-    let k = within(kept.store_lent, store.len());
-    let m = room(n[1]);
-    let mut joined = [0u8; LONGEST_BYTES];
-    let s = node::collect_group(
-        kept.groups,
-        &store[0..k],
-        has_originator,
-        originator,
-        n[0],
-        &mut joined[0..m],
-    );
-    served(kept, s, joined)
+    groups: Groups,
+    store: &mut [u8],
+    room: &mut [u8],
+) -> Groups {
+    let s = node::collect_group(groups, store, !c.is_absent, originator, c.z, room);
+    served(s, room)
 }
 
-pub(crate) fn sweep(kept: State, n: [u32; 4]) -> Done {
-    let s = node::sweep_groups(kept.groups, n[0]);
-    served(kept, s, [0u8; LONGEST_BYTES])
+// What a call came to; a collected group stands at the front of `room`.
+fn served(s: GroupsServed, room: &[u8]) -> Groups {
+    let answer = s.answer;
+    match answer {
+        GroupAnswer::Added(_) => say(say::ACCEPTED),
+        GroupAnswer::Collected(_, n) => say_bytes(say::JOINED, room, n),
+        GroupAnswer::Swept => say(say::SWEPT),
+        GroupAnswer::Refused(number) => refused(number),
+    }
+    s.groups
 }

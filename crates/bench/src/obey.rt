@@ -1,69 +1,56 @@
-// Each command's call: one function for each form.
-use crate::answer;
-use crate::answer::Answer;
+// Each command's call, made by the area that it belongs to, and what the bench keeps from command to command.
 use crate::buffers;
-use crate::command;
+use crate::buffers::Lent;
 use crate::command::Command;
-use crate::datagrams;
-use crate::forms;
 use crate::fragment_calls;
-use crate::hashes;
-use crate::lines;
 use crate::sessions;
-use crate::state::Done;
-use crate::state::State;
+use crate::sessions::Talk;
 use crate::stream_calls;
+use node::Groups;
+use node::Table;
 
-// Makes a command's call, with the bytes and the numbers that are its arguments.
-pub(crate) fn obey(c: Command, line: &[u8], kept: State, store: &mut [u8]) -> Done {
-    let verb = c.verb;
-    let n = c.numbers;
-    let a = command::bytes(line, c.places[0]);
-    let b = command::bytes(line, c.places[1]);
-    match verb {
-        forms::LEND => buffers::lend(kept, n),
-        forms::STORE => buffers::lend_store(kept, n),
-        forms::FILL => buffers::fill(kept, store, n),
-        forms::OPEN => sessions::open(kept),
-        forms::FEED => sessions::feed(kept, a),
-        forms::OFFER => stream_calls::offer(kept, a, b, n),
-        forms::TAKE => stream_calls::take(kept, a, b, n),
-        forms::FORCE => stream_calls::force(kept, a, b, n),
-        forms::CLOSE => stream_calls::close(kept, a, b),
-        forms::LOAD => stream_calls::load(kept, a),
-        forms::FRAGMENT => fragment_calls::fragment(kept, store, c.has_first, a, b, n),
-        forms::COLLECT => fragment_calls::collect(kept, store, c.has_first, a, n),
-        forms::SWEEP => fragment_calls::sweep(kept, n),
-        _ => kept.says(look(c, a, kept, store)),
+// What is kept, but for the buffers.
+pub(crate) struct State {
+    table: Table,
+    groups: Groups,
+    talk: Talk,
+    lent: Lent,
+}
+
+// An empty table, free groups, no session, and all of each buffer lent.
+pub(crate) fn fresh() -> State {
+    let table = Table::new();
+    let groups = Groups::new();
+    let talk = sessions::none();
+    let lent = Lent {
+        payload: buffers::PAYLOAD,
+        reply: buffers::REPLY,
+        store: buffers::STORE,
+    };
+    State {
+        table,
+        groups,
+        talk,
+        lent,
     }
 }
 
-// The answer of a command that changes nothing, or of what is no command.
-fn look(c: Command, a: &[u8], kept: State, store: &[u8]) -> Answer {
-    let verb = c.verb;
-    let n = c.numbers;
-    match verb {
-        forms::PEEK_PAYLOAD => buffers::peek_payload(kept.lent, n),
-        forms::PEEK_REPLY => buffers::peek_reply(kept.lent, n),
-        forms::PEEK_STORE => buffers::peek(store, n),
-        forms::SAVE => stream_calls::save(kept.table, n),
-        _ => read(c, a),
-    }
-}
-
-// The answer of a command on its own bytes.
-fn read(c: Command, a: &[u8]) -> Answer {
-    let verb = c.verb;
-    let n = c.numbers;
-    match verb {
-        forms::SHA1 => hashes::sha1(a),
-        forms::CRC => hashes::crc(a),
-        forms::UTF8 => hashes::utf8(a),
-        forms::ID => hashes::id(c.has_salt, c.salt, a),
-        forms::LINE => lines::line(a),
-        forms::RELINE => lines::reline(a, n),
-        forms::DATAGRAM => datagrams::datagram(a),
-        forms::REDATAGRAM => datagrams::redatagram(a, n),
-        _ => answer::bad(),
+// Hands a command to each area that keeps something. Only the one that the command belongs to changes anything, and says its answer.
+pub(crate) fn obey(
+    c: Command,
+    line: &[u8],
+    kept: State,
+    memory: &mut [u8],
+    out: &mut [u8],
+) -> State {
+    let talk = sessions::obey(c, line, kept.talk, kept.lent, memory, out);
+    let table = stream_calls::obey(c, line, kept.table, out);
+    let groups = fragment_calls::obey(c, line, kept.groups, kept.lent.store, memory, out);
+    let lent = buffers::lend(c, kept.lent);
+    State {
+        table,
+        groups,
+        talk,
+        lent,
     }
 }

@@ -1,74 +1,79 @@
 // The commands on the stream table: `offer`, `take`, `force`, `close`, `save` and `load`.
-use crate::answer;
-use crate::answer::Answer;
-use crate::arguments::LONGEST_BYTES;
-use crate::command::room;
-use crate::state::Done;
-use crate::state::State;
+use crate::buffers;
+use crate::command::Command;
+use crate::command::lent;
+use crate::command::part;
+use crate::forms;
+use crate::say;
+use crate::say::refused;
+use crate::say::say;
+use crate::say::say_bytes;
+use crate::say::say_number;
 use node::Accepting;
 use node::Giving;
 use node::Saved;
 use node::Table;
+use node::TableServed;
+use node::TableTaken;
 
-// The state with that table, and the answer.
-fn served(kept: State, table: Table, answer: Answer) -> Done {
-    let mut after = kept;
-    after.table = table;
-    after.says(answer)
+pub(crate) fn obey(c: Command, line: &[u8], table: Table, out: &mut [u8]) -> Table {
+    let verb = c.verb;
+    let a = part(line, c.a_at, c.a_len);
+    let b = part(line, c.b_at, c.b_len);
+    match verb {
+        forms::OFFER => served(table.offer(a, b, c.x, c.y, c.z, c.t), say::ACCEPTED),
+        forms::TAKE => taken(table.take(a, b, c.t)),
+        forms::FORCE => taken(table.force(a, b, c.t)),
+        forms::CLOSE => served(table.close(a, b), say::CLOSED),
+        forms::LOAD => load(b, table),
+        forms::SAVE => save(table, lent(out, buffers::REPLY, c.t as usize)),
+        _ => table,
+    }
 }
 
 // The word of a call that was accepted, or its refusal.
-fn accepting(answer: Accepting, accepted: &[u8]) -> Answer {
+fn accepting(answer: Accepting, accepted: u8) {
     match answer {
-        Accepting::Accepted => answer::said(accepted),
-        Accepting::Refused(number) => answer::refused(number),
+        Accepting::Accepted => say(accepted),
+        Accepting::Refused(number) => refused(number),
     }
 }
 
-fn giving(answer: Giving) -> Answer {
-    match answer {
-        Giving::Given(number, slip) => answer::said(b"").keyed(b"given ", number).keyed(b" ", slip),
-        Giving::Nothing => answer::said(b"nothing"),
-        Giving::Refused(number) => answer::refused(number),
-    }
-}
-
-pub(crate) fn offer(kept: State, originator: &[u8], stream: &[u8], n: [u32; 4]) -> Done {
-    let s = kept.table.offer(originator, stream, n[0], n[1], n[2], n[3]);
+fn served(s: TableServed, accepted: u8) -> Table {
     let answer = s.answer;
-    served(kept, s.table, accepting(answer, b"accepted"))
+    accepting(answer, accepted);
+    s.table
 }
 
-pub(crate) fn take(kept: State, originator: &[u8], stream: &[u8], n: [u32; 4]) -> Done {
-    let t = kept.table.take(originator, stream, n[0]);
-    let answer = t.answer;
-    served(kept, t.table, giving(answer))
-}
-
-pub(crate) fn force(kept: State, originator: &[u8], stream: &[u8], n: [u32; 4]) -> Done {
-    let t = kept.table.force(originator, stream, n[0]);
-    let answer = t.answer;
-    served(kept, t.table, giving(answer))
-}
-
-pub(crate) fn close(kept: State, originator: &[u8], stream: &[u8]) -> Done {
-    let s = kept.table.close(originator, stream);
-    let answer = s.answer;
-    served(kept, s.table, accepting(answer, b"closed"))
-}
-
-pub(crate) fn save(table: Table, n: [u32; 4]) -> Answer {
-    let mut bytes = [0u8; LONGEST_BYTES];
-    let k = room(n[0]);
-    let saved = node::save(table, &mut bytes[0..k]);
-    match saved {
-        Saved::Written(len) => answer::said(b"image ").room(&bytes, len),
-        Saved::Refused(number) => answer::refused(number),
-    }
-}
-
-pub(crate) fn load(kept: State, image: &[u8]) -> Done {
-    let l = node::load(kept.table, image);
+fn load(image: &[u8], table: Table) -> Table {
+    let l = node::load(table, image);
     let answer = l.answer;
-    served(kept, l.table, accepting(answer, b"loaded"))
+    accepting(answer, say::LOADED);
+    l.table
+}
+
+fn giving(answer: Giving) {
+    match answer {
+        Giving::Given(number, slip) => {
+            say_number(say::GIVEN, number);
+            say_number(say::SPACE, slip);
+        }
+        Giving::Nothing => say(say::NOTHING),
+        Giving::Refused(number) => refused(number),
+    }
+}
+
+fn taken(t: TableTaken) -> Table {
+    let answer = t.answer;
+    giving(answer);
+    t.table
+}
+
+fn save(table: Table, room: &mut [u8]) -> Table {
+    let saved = node::save(table, room);
+    match saved {
+        Saved::Written(len) => say_bytes(say::IMAGE, room, len),
+        Saved::Refused(number) => refused(number),
+    }
+    table
 }

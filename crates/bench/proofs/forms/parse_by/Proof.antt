@@ -1,5 +1,5 @@
--- Each turn reads a byte of the forms.
-use Prim.Native.Nat.{_-_, _≤_}
+-- Each turn looks at a form.
+use Prim.Native.Nat.{_-_}
 use mathlib.Core.Path.{_≡_}
 use borrow.Author.Needs.{needs}
 use lib.ListN.{length}
@@ -7,10 +7,10 @@ use Rattle.bench.proofs.forms.parse_by.Statement.{statement}
 use Rattle.bench.proofs.forms.parse_by.Tie as tie
 
 abbrev Inv-loop : tie.InvT-loop
-Inv-loop forms line₀ s₀ i₀ line s i = (i ≤ length forms) × (length line ≡ length line₀)
+Inv-loop forms line₀ verb₀ at₀ line verb at = length line ≡ length line₀
 
 abbrev μ-loop : tie.MeasureT-loop
-μ-loop forms line₀ s₀ i₀ line s i = length forms - i
+μ-loop forms line₀ verb₀ at₀ line verb at = length forms - at
 
 pub parse-by-spec : {M : Type 1} → statement M
 parse-by-spec =
@@ -18,8 +18,6 @@ parse-by-spec =
     (tie.spec
     Inv-loop
     μ-loop
-    (λ c κs. search needs)
-    (λ c. search needs)
     (λ c. search needs)
     (λ c κs. search needs)
     (λ c. search needs)
@@ -28,6 +26,11 @@ parse-by-spec =
     (λ c κs. search needs)
     (λ c. search needs)
     (λ c. search needs)
+    (λ c. search needs)
+    (λ c κs. search needs)
+    (λ c. search needs)
+    (λ c. search needs)
+    (λ c κs. search needs)
     (λ c. search needs)
     (λ c. search needs)
     (λ c. search needs)

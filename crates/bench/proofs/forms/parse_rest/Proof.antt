@@ -1,5 +1,5 @@
 -- Each turn reads a kind, and the word that is its argument.
-use Prim.Native.Nat.{_-_, _≤_}
+use Prim.Native.Nat.{_-_}
 use mathlib.Core.Path.{_≡_}
 use borrow.Author.Needs.{needs}
 use lib.ListN.{length}
@@ -7,10 +7,10 @@ use Rattle.bench.proofs.forms.parse_rest.Statement.{statement}
 use Rattle.bench.proofs.forms.parse_rest.Tie as tie
 
 abbrev Inv-loop : tie.InvT-loop
-Inv-loop kinds line₀ from verb c₀ at₀ i₀ line c at i = (i ≤ length kinds) × (length line ≡ length line₀)
+Inv-loop form line₀ from verb c₀ at₀ i₀ line c at i = length line ≡ length line₀
 
 abbrev μ-loop : tie.MeasureT-loop
-μ-loop kinds line₀ from verb c₀ at₀ i₀ line c at i = length kinds - i
+μ-loop form line₀ from verb c₀ at₀ i₀ line c at i = length form - i
 
 pub parse-rest-spec : {M : Type 1} → statement M
 parse-rest-spec =
@@ -19,7 +19,6 @@ parse-rest-spec =
     Inv-loop
     μ-loop
     (λ c κs. search needs)
-    (λ c. search needs)
     (λ c. search needs)
     (λ c κs. search needs)
     (λ c. search needs)

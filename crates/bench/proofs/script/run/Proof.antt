@@ -4,34 +4,24 @@ use Rattle.bench.proofs.script.run.Statement.{statement}
 use Rattle.bench.proofs.script.run.Tie as tie
 
 abbrev Inv-loop : tie.InvT-loop
-Inv-loop line₀ store₀ turns₀ s₀ line store turns s = Unit {0}
+Inv-loop line₀ memory₀ out₀ turns₀ kept₀ line memory out turns kept = Unit {0}
 
 abbrev μ-loop : tie.MeasureT-loop
-μ-loop line₀ store₀ turns₀ s₀ line store turns s = turns
-
-start-requires : tie.Need-start-requires Inv-loop μ-loop
-start-requires c κs = tt
-
-loop-holds : tie.Need-loop-holds Inv-loop μ-loop
-loop-holds c = tt
-
-turn-requires : tie.Need-turn-requires Inv-loop μ-loop
-turn-requires c κs = tt
-
-returns : tie.Need-returns Inv-loop μ-loop
-returns c = tt
+μ-loop line₀ memory₀ out₀ turns₀ kept₀ line memory out turns kept = turns
 
 sub-turns : tie.Need-sub-turns Inv-loop μ-loop
-sub-turns c = omega arith
+sub-turns c =
+    omega (
+      arith,
+      c .before .before .before .before .before .before .before .before .before .before .before .before .before .before .before .before .loop-test .taken,
+    )
 
 loop-less : tie.Need-loop-less Inv-loop μ-loop
-loop-less c = omega arith
-
-loop-again : tie.Need-loop-again Inv-loop μ-loop
-loop-again c = tt
-
-returns-2 : tie.Need-returns-2 Inv-loop μ-loop
-returns-2 c = tt
+loop-less c =
+    omega (
+      arith,
+      c .before .before .before .before .before .before .before .before .before .before .before .before .before .before .before .before .loop-test .taken,
+    )
 
 pub run-spec : {M : Type 1} → statement M
 run-spec =
@@ -39,11 +29,15 @@ run-spec =
     (tie.spec
     Inv-loop
     μ-loop
-    start-requires
-    loop-holds
-    turn-requires
-    returns
+    (λ c κs. tt)
+    (λ c. tt)
+    (λ c κs. tt)
+    (λ c κs. tt)
+    (λ c κs. tt)
+    (λ c κs. tt)
+    (λ c κs. tt)
+    (λ c. tt)
     sub-turns
     loop-less
-    loop-again
-    returns-2)
+    (λ c. tt)
+    (λ c. tt))

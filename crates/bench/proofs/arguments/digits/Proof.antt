@@ -1,28 +1,26 @@
 -- Each turn reads a byte of the word.
 use Prim.Native.Nat.{_-_, _≤_}
 use borrow.Author.Needs.{needs}
-use Rattle.bench.proofs.arguments.hex_number.Statement.{statement}
-use Rattle.bench.proofs.arguments.hex_number.Tie as tie
+use lib.ListN.{length}
+use Rattle.bench.proofs.arguments.digits.Statement.{statement}
+use Rattle.bench.proofs.arguments.digits.Tie as tie
 
 abbrev Inv-loop : tie.InvT-loop
-Inv-loop word n v₀ i₀ v i = i ≤ n
+Inv-loop word base v₀ i₀ v i = i ≤ length word
 
 abbrev μ-loop : tie.MeasureT-loop
-μ-loop word n v₀ i₀ v i = n - i
+μ-loop word base v₀ i₀ v i = length word - i
 
-pub hex-number-spec : {M : Type 1} → statement M
-hex-number-spec =
+pub digits-spec : {M : Type 1} → statement M
+digits-spec =
     tie.close
     (tie.spec
     Inv-loop
     μ-loop
-    (λ c κs. search needs)
     (λ c. search needs)
     (λ c. search needs)
     (λ c κs. search needs)
-    (λ c. search needs)
-    (λ c. search needs)
-    (λ c. search needs)
+    (λ c κs. search needs)
     (λ c. search needs)
     (λ c. search needs)
     (λ c. search needs)

@@ -1,32 +1,29 @@
--- Every byte is read in its turn.
+-- Each turn reads a byte of the form.
 use Prim.Native.Nat.{_-_, _≤_}
 use borrow.Author.Needs.{needs}
-use Rattle.bench.proofs.answer.Answer.front.Statement.{statement}
-use Rattle.bench.proofs.answer.Answer.front.Tie as tie
+use lib.ListN.{length}
+use Rattle.bench.proofs.forms.behind_words.Statement.{statement}
+use Rattle.bench.proofs.forms.behind_words.Tie as tie
 
 abbrev Inv-loop : tie.InvT-loop
-Inv-loop s n k out₀ i₀ out i = i ≤ k
+Inv-loop form line i₀ i = i ≤ length form
 
 abbrev μ-loop : tie.MeasureT-loop
-μ-loop s n k out₀ i₀ out i = k - i
+μ-loop form line i₀ i = length form - i
 
-pub front-spec : {M : Type 1} → statement M
-front-spec =
+pub behind-words-spec : {M : Type 1} → statement M
+behind-words-spec =
     tie.close
     (tie.spec
     Inv-loop
     μ-loop
-    (λ c κs. search needs)
-    (λ c κs. search needs)
     (λ c. search needs)
     (λ c. search needs)
     (λ c. search needs)
     (λ c. search needs)
-    (λ c κs. search needs)
     (λ c. search needs)
     (λ c. search needs)
     (λ c. search needs)
-    (λ c κs. search needs)
     (λ c. search needs)
     (λ c. search needs)
     (λ c. search needs)

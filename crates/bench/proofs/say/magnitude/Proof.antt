@@ -4,8 +4,8 @@ use borrow.Author.Needs.{needs}
 use mir.Syntax.{w64}
 use mir.ValLaws.{toZ-pos}
 use Rattle.text.proofs.Sign.{plain-bits, minus-bits}
-use Rattle.bench.proofs.answer.magnitude.Statement.{statement}
-use Rattle.bench.proofs.answer.magnitude.Tie as tie
+use Rattle.bench.proofs.say.magnitude.Statement.{statement}
+use Rattle.bench.proofs.say.magnitude.Tie as tie
 
 cast-result : tie.Need-cast-result
 cast-result c = plain-bits (c .before .args .v) (c .before .fits .v) (c .if1 .taken)
