@@ -58,7 +58,7 @@ module _ (l : List Slot) (k : Key) where
   unfolding testOf
   test-broken r e f = e ∙ sym (if-yes _ _ _ (no-false _ f))
 
-  pub test-good : (found free rows : ℕ) → keepsSlots l ≡ true → found ≡ placeNumber (first (hasKey k) 0 l) → free ≡ placeNumber (first isFree 0 l) → rows ≡ openCount l
-      → _≡_ {A = Ruled} (record { good = true; found = found; free = free; rows = rows }) (testOf l k)
+  pub test-good : (r : Ruled) → r .good ≡ true → keepsSlots l ≡ true → r .found ≡ placeNumber (first (hasKey k) 0 l) → r .free ≡ placeNumber (first isFree 0 l) → r .rows ≡ openCount l
+      → r ≡ testOf l k
   unfolding testOf
-  test-good found free rows e a b c = rw (a, b, c) (sym (if-no _ _ _ (no-true _ e)))
+  test-good r g e a b c = sym (if-no _ _ _ (no-true _ e) ∙ λ i. record { good = sym g i; found = sym a i; free = sym b i; rows = sym c i })

@@ -7,7 +7,12 @@ use lib.ListN.{getD, drop}
 use Rattle.octets.specs.Words.{if_then_else_, _<?_}
 use Rattle.keys.specs.Key.{streamIdOf, markOf}
 use Rattle.slots.specs.declared.Slot.{Slot}
+use Rattle.slot_rules.specs.declared.Ruled.{Ruled}
 use Rattle.slot_rules.specs.Slots.{Found, first, slotIn}
+
+-- before any slot is looked at
+abbrev pub unseen : Ruled
+unseen = record { good = true; found = 32; free = 32; rows = 0 }
 
 -- the marks of the open ones of the first n slots
 abbrev pub Marked : List Slot → List ℕ → ℕ → Type 0

@@ -3,7 +3,7 @@ ghost use mathlib.Core.Path.{_≡_};
 ghost use Prim.Native.Nat.{_+_, _<_};
 ghost use Rattle.octets.specs.Words.{if_then_else_};
 ghost use Rattle.slot_rules.specs.Slots.{testOf, broken};
-ghost use Rattle.slot_rules.specs.Steps.{seenAt};
+ghost use Rattle.slot_rules.specs.Steps.{unseen, seenAt};
 use keys::Key;
 use slots::Slot;
 
@@ -22,16 +22,14 @@ pub fn test(slots: [Slot; 32], key: Key) -> Ruled
     ensures { λ r. ⌜ r ≡ testOf slots key ⌝ }
 {
     let mut marks = [0u32; 32];
-    let mut found: usize = 32;
-    let mut free: usize = 32;
-    let mut rows: usize = 0;
+    let mut r = unseen();
     let mut i: usize = 0;
     while i < 32 {
         if !slots[i].is_open {
             if !slots[i].free_keeps_rules() {
                 return broken();
             }
-            free = seen(free, i, true);
+            r.free = seen(r.free, i, true);
             i += 1;
             continue;
         }
@@ -41,8 +39,8 @@ pub fn test(slots: [Slot; 32], key: Key) -> Ruled
         }
         let own = x.key;
         marks[i] = keys::mark(own);
-        found = seen(found, i, x.has_key(key));
-        rows += 1;
+        r.found = seen(r.found, i, x.has_key(key));
+        r.rows += 1;
         i += 1;
     }
     let mut k: usize = 0;
@@ -53,20 +51,25 @@ pub fn test(slots: [Slot; 32], key: Key) -> Ruled
                 j += 1;
                 continue;
             }
-            let x = slots[k];
-            let y = slots[j];
-            if x.is_alike(y) {
+            if slots[k].is_alike(slots[j]) {
                 return broken();
             }
             j += 1;
         }
         k += 1;
     }
+    r
+}
+
+// Nothing is found yet.
+fn unseen() -> Ruled
+    ensures { λ r. ⌜ r ≡ unseen ⌝ }
+{
     Ruled {
         good: true,
-        found: found,
-        free: free,
-        rows: rows,
+        found: 32,
+        free: 32,
+        rows: 0,
     }
 }
 
