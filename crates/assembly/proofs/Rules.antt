@@ -148,7 +148,7 @@ held-set (x ∷ l) (suc i) p h e = go (x .held) (held-set l i p (omega arith) e)
     go true q = refl
     go false q = q
 
--- M is that of the group, which is in use and has its rules but for a fragment held
+-- M is that of the group, which is open and has its rules but for a fragment held
 pub with-keeps : (x : Group) (f : Fragment) → Ranged f → x .«is_open» ≡ true → x .total ≡ f .total → length (x .pieces) ≡ 16 → keepsPieces (x .total) 0 (x .pieces) ≡ true → keepsKey (x .key) ≡ true
     → keepsGroup (withFragment x f) ≡ true
 unfolding keepsGroup keepsPiece
@@ -162,7 +162,7 @@ pub key-kept : (x : Group) → keepsGroup x ≡ true → keepsKey (x .key) ≡ t
 unfolding keepsGroup
 key-kept x e = and-left (keepsKey (x .key)) _ (and-right (keepsPieces (x .total) 0 (x .pieces)) _ (and-right (length (x .pieces) =? 16) _ e))
 
--- M of a group in use
+-- M of an open group
 pub total-kept : (x : Group) → keepsGroup x ≡ true → x .«is_open» ≡ true → (2 ≤ x .total) × (x .total ≤ 16)
 unfolding keepsGroup
 total-kept x e u =

@@ -32,7 +32,7 @@ freeGroup = record { «is_open» = false; key = noKey; total = 0; began = 0; pie
 abbrev pub isFree : Group → Bool
 isFree x = no (x .«is_open»)
 
--- the group is in use and has the key
+-- the group is open and has the key
 unfoldable pub hasKey : Key → Group → Bool
 hasKey k x = x .«is_open» and sameKey k (x .key)
 
@@ -62,7 +62,7 @@ abbrev pub keepsPieces : ℕ → ℕ → List Piece → Bool
 keepsPieces total n [] = true
 keepsPieces total n (p ∷ rest) = keepsPiece total n p and keepsPieces total (n + 1) rest
 
--- a group in use has M 2 to 16 and holds a fragment; a free one is all zero
+-- an open group has M 2 to 16 and holds a fragment; a free one is all zero
 abbrev pub keepsUse : Group → Bool
 keepsUse x =
     if x .«is_open» then between 2 16 (x .total) and some isHeld (x .pieces)
@@ -71,11 +71,11 @@ keepsUse x =
 unfoldable pub keepsGroup : Group → Bool
 keepsGroup x = length (x .pieces) =? 16 and keepsPieces (x .total) 0 (x .pieces) and keepsKey (x .key) and keepsUse x
 
--- the group is in use, and one of the rest has its key
+-- the group is open, and one of the rest has its key
 abbrev pub twice : Group → List Group → Bool
 twice x rest = x .«is_open» and some (hasKey (x .key)) rest
 
--- no two groups in use have equal keys
+-- no two open groups have equal keys
 abbrev pub distinct : List Group → Bool
 distinct [] = true
 distinct (x ∷ rest) = no (twice x rest) and distinct rest

@@ -129,7 +129,7 @@ fn has_from(t: Groups, key: Key, from: usize) -> bool
     false
 }
 
-// Whether group x, at `at`, is in use and has a later one's key.
+// Whether group x, at `at`, is open and has a later one's key.
 fn is_twice(t: Groups, x: Group, at: usize) -> bool
     requires { ⌜ at ≤ 4 ⌝ }
     ensures { λ r. ⌜ r ≡ twice x (drop (at + 1) (t .items)) ⌝ }
@@ -141,7 +141,7 @@ fn is_twice(t: Groups, x: Group, at: usize) -> bool
     has_from(t, key, at + 1)
 }
 
-// Whether no two groups in use have equal keys.
+// Whether no two open groups have equal keys.
 pub(crate) fn keys_differ(t: Groups) -> bool
     ensures { λ r. ⌜ r ≡ distinct (t .items) ⌝ }
 {

@@ -14,6 +14,6 @@ sweptGroup time x = if x .«is_open» and no (complete x) and 604800 ≤? time -
 abbrev pub sweptAll : Groups → ℕ → Groups
 sweptAll t time = record { items = map (sweptGroup time) (t .items) }
 
--- whether group g, 0 to 3, is in use and complete
+-- whether group g, 0 to 3, is open and complete
 abbrev pub standsComplete : Groups → ℕ → Bool
 standsComplete t g = g <? 4 and groupAt t g .«is_open» and complete (groupAt t g)

@@ -47,7 +47,7 @@ pub fn sweep_all(groups: Groups, time: u32) -> Groups
     after
 }
 
-// Whether group `number`, 0 to 3, is in use and complete.
+// Whether group `number`, 0 to 3, is open and complete.
 pub fn stands_complete(groups: Groups, number: usize) -> bool
     ensures { λ r. ⌜ r ≡ standsComplete groups number ⌝ }
 {

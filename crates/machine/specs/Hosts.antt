@@ -13,7 +13,7 @@ module _ {S E C : Type 0} (step : S → C → Out S E) (piece : C → List ℕ) 
   bytesUsed s [] = []
   bytesUsed s (c ∷ cs) = take (step s c .used) (piece c) ++ bytesUsed (step s c .state) cs
 
-  -- what the peer and the host see of the calls; `noted e` is what the host notes of e
+  -- what the peer and the host see of the calls; `reports e` is what the host reports of e
   abbrev pub seenBy : (E → List E) → S → List C → Seen S E
   seenBy reports s [] = record { state = s; reply = []; happened = [] }
   seenBy reports s (c ∷ cs) = before (step s c .reply) (reports (step s c .happened)) (seenBy reports (step s c .state) cs)

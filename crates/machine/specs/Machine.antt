@@ -38,7 +38,7 @@ module _ {S E : Type 0} where
   run feed none k s [] = record { used = k; state = s; reply = []; happened = none }
   run feed none k s (b ∷ bs) = after (feed s b) k (λ t. run feed none (k + 1) t bs)
 
-  -- the whole stream, byte by byte; `noted e` is what the host notes of e
+  -- the whole stream, byte by byte; `reports e` is what the host reports of e
   abbrev pub seen : (S → ℕ → Fed S E) → (E → List E) → S → List ℕ → Seen S E
   seen feed reports s [] = record { state = s; reply = []; happened = [] }
   seen feed reports s (b ∷ bs) = seenAfter reports (feed s b) (λ t. seen feed reports t bs)

@@ -1,4 +1,4 @@
--- What a private step of the code comes to. No public promise cites this file.
+-- What the tests of a row come to on its held messages. No public promise cites this file.
 use Prim.Native.Nat.{ℕ}
 use mathlib.Core.Bool.{Bool, false}
 use mathlib.Core.List.{List, [], _∷_}

@@ -15,7 +15,7 @@ use Rattle.refusals.specs.Numbers.{bufferTooShort, sessionClosed, stateBroken, 
 use Rattle.field_rules.specs.Rules.{idIn}
 use Rattle.talk.specs.declared.Session.{Session}
 use Rattle.talk.specs.Sessions.{keepsTerms}
-use Rattle.session_rules.specs.Rules.{ruled, keepsLine, keepsPayload, keepsSession, longestReply, stepRefusal}
+use Rattle.session_rules.specs.Rules.{sessionBy, keepsLine, keepsPayload, keepsSession, longestReply, stepRefusal}
 
 -- the longest line that a mode may have
 abbrev pub longest : ℕ → ℕ
@@ -133,7 +133,7 @@ pub long-enough : (n m : ℕ) → (n <? longestPayload or m <? longestReply) ≡
 long-enough n m e = let k = or-no (n <? longestPayload) (m <? longestReply) e in (ltb-false _ _ (k .0), ltb-false _ _ (k .1))
 
 -- the running digest has no rule
-pub digest-free : (s : Session) (payload room n : ℕ) → n ≡ stepRefusal (ruled (s .mode) (s .«line_len») (s .line) (s .terms) (s .got)) payload room → n ≡ stepRefusal s payload room
+pub digest-free : (s : Session) (payload room n : ℕ) → n ≡ stepRefusal (sessionBy (s .mode) (s .«line_len») (s .line) (s .terms) (s .got)) payload room → n ≡ stepRefusal s payload room
 unfolding stepRefusal keepsSession keepsLine keepsPayload
 digest-free s payload room n e = e
 

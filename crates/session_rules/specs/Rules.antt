@@ -36,5 +36,5 @@ stepRefusal s payload room =
     else 0
 
 -- a session by its fields that have rules; its running digest has none
-abbrev pub ruled : ℕ → ℕ → List ℕ → Terms → ℕ → Session
-ruled mode n line t got = record { mode = mode; «line_len» = n; line = line; terms = t; got = got; hash = fresh }
+abbrev pub sessionBy : ℕ → ℕ → List ℕ → Terms → ℕ → Session
+sessionBy mode n line t got = record { mode = mode; «line_len» = n; line = line; terms = t; got = got; hash = fresh }

@@ -3,7 +3,7 @@ use talk::Terms;
 ghost use mathlib.Core.Path.{_≡_};
 ghost use Rattle.octets.specs.Words.{if_then_else_, _or_, _<?_};
 ghost use Rattle.refusals.specs.Numbers.{longestPayload};
-ghost use Rattle.session_rules.specs.Rules.{ruled, keepsSession, longestReply};
+ghost use Rattle.session_rules.specs.Rules.{sessionBy, keepsSession, longestReply};
 
 // The longest line that a mode may have.
 fn longest_line(mode: u8) -> usize
@@ -16,7 +16,7 @@ fn longest_line(mode: u8) -> usize
 }
 
 pub(crate) fn keep_rules(mode: u8, n: usize, line: &[u8; 512], terms: Terms, got: usize) -> bool
-    ensures { λ r. ⌜ r ≡ keepsSession (ruled mode n (now (line .entry)) terms got) ⌝ }
+    ensures { λ r. ⌜ r ≡ keepsSession (sessionBy mode n (now (line .entry)) terms got) ⌝ }
 {
     if 3 < mode {
         return false;

@@ -1,4 +1,4 @@
--- A number that a group has, in use, and complete.
+-- A number that a group has, open, and complete.
 use mathlib.Core.Path.{sym, _∙_}
 use borrow.Author.Needs.{needs}
 use borrow.Author.Tests.{lt-ltb, le-ltb, not-true, not-false}

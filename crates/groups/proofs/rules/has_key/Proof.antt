@@ -1,4 +1,4 @@
--- The group is in use, and the keys are equal.
+-- The group is open, and the keys are equal.
 use mathlib.Core.Path.{sym, _∙_}
 use borrow.Author.Needs.{needs}
 use borrow.Author.Tests.{not-true, not-false}

@@ -1,4 +1,4 @@
--- A group in use whose key a later one has.
+-- An open group whose key a later one has.
 use mathlib.Core.Path.{sym, _∙_}
 use borrow.Author.Needs.{needs}
 use borrow.Author.Tests.{not-true, not-false}

@@ -1,4 +1,4 @@
--- M and a fragment where the group is in use; allZero where it is free.
+-- M and a fragment where the group is open; allZero where it is free.
 use mathlib.Core.Path.{sym, _∙_}
 use borrow.Author.Needs.{needs}
 use borrow.Author.Tests.{eq-eqb, ne-eqb}

@@ -1,4 +1,4 @@
--- No two groups in use have equal keys: from each on, the rest decides.
+-- No two open groups have equal keys: from each on, the rest decides.
 use Prim.Native.Nat.{_-_}
 use mathlib.Core.Path.{_≡_, refl, sym, ap, _∙_}
 use native.Mathlib.Omega.{arith}
