@@ -131,8 +131,8 @@ pub(crate) fn read_message(d: &[u8]) -> DatagramAnswer
         hops,
     };
     DatagramAnswer {
-        reading,
         message,
+        reading,
         payload_at: n1 + (n2 + (n3 + e.used)),
         payload_len: 0,
     }

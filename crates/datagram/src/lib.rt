@@ -12,10 +12,11 @@ pub enum DatagramReading {
     Refused(u8),
 }
 
-// The message, and where the payload stands in the lent datagram; beside a refusal both are blank.
+// The message, and where the payload stands in the lent datagram; beside a refusal both are blank. The message stands first, so that nothing lies
+// between it and the answer's start: it is then copied once less.
 pub struct DatagramAnswer {
-    pub reading: DatagramReading,
     pub message: Datagram,
+    pub reading: DatagramReading,
     pub payload_at: usize,
     pub payload_len: usize,
 }
@@ -25,8 +26,8 @@ fn refuse(number: u8) -> DatagramAnswer
 {
     let message = layout::blank();
     DatagramAnswer {
-        reading: DatagramReading::Refused(number),
         message,
+        reading: DatagramReading::Refused(number),
         payload_at: 0,
         payload_len: 0,
     }

@@ -1,10 +1,10 @@
 -- Pairs of header keys: the keys from a place on decide, for the first key of a pair and for the second.
 use Prim.Native.Nat.{ℕ, _+_, _<_, min}
-use mathlib.Core.Path.{_≡_, ap, sym, _∙_}
+use mathlib.Core.Path.{_≡_, refl, ap, sym, _∙_}
 use mathlib.Core.Bool.{true, false}
-use mathlib.Core.List.{List, [], map}
+use mathlib.Core.List.{List, [], _∷_, map}
 use native.Mathlib.Omega.{arith}
-use lib.ListN.{length, getD, take, drop, length-map, List·getD-map}
+use lib.ListN.{length, getD, take, drop, length-map, length-take, List·getD-map}
 use lib.Seq.{drop-length, length-take-le, getD-take}
 use Rattle.octets.specs.Words.{_and_, no, some}
 use Rattle.octets.specs.Bytes.{same}
@@ -60,3 +60,14 @@ module _ (h : Headers) (full : length (h .items) ≡ 8) where
   pub first-end : (i : ℕ) → i ≡ min (h .count) 8 → allDiffer (drop i (keysOf h)) ≡ true
   unfolding allDiffer
   first-end i e = rw (e ∙ sym count-keys, drop-length (keysOf h))
+
+-- fewer than two keys differ
+few : (l : List (List ℕ)) → length l < 2 → allDiffer l ≡ true
+unfolding allDiffer
+few [] h = refl
+few (k ∷ []) h = refl
+few (k ∷ m ∷ l) h = absurd (omega arith)
+
+pub few-differ : (h : Headers) → h .count < 2 → allDiffer (keysOf h) ≡ true
+unfolding keysOf
+few-differ h e = few (map keyOf (take (h .count) (h .items))) (omega (arith, length-map (take (h .count) (h .items)) keyOf, length-take (h .count) (h .items)))

@@ -88,5 +88,9 @@ pub fn are_headers(h: Headers) -> bool
         }
         i += 1;
     }
+    // The headers are copied for the search: where there are fewer than two, nothing is to be found.
+    if n < 2 {
+        return true;
+    }
     keys_differ(h)
 }

@@ -9,7 +9,7 @@ use Rattle.octets.specs.Words.{every}
 use Rattle.octets.proofs.Tests.{and-next, and-not-left}
 use Rattle.headers.specs.Rule.{header, headers}
 use Rattle.headers.proofs.Items.{item-next, item-not, item-end}
-use Rattle.headers.proofs.Pairs.{noHeader}
+use Rattle.headers.proofs.Pairs.{few-differ, noHeader}
 use Rattle.headers.proofs.are_headers.Statement.{statement}
 use Rattle.headers.proofs.are_headers.Tie as tie
 
@@ -46,6 +46,14 @@ returns-3 c =
     let at-if1 = c .before .before .before .if1 in
     let at-loop = c .before .before .loop in
     let at-args = c .before .before .before .before .args in
+    sym (and-next _ _ (le-leb _ 8 (at-if1 .left)) ∙ and-next _ _ (at-loop .inv .2 ∙ item-end header (at-args .t1 .items) (at-args .t1 .count) (at-loop .i) (omega arith) (omega arith)) ∙ few-differ (at-args .t1) (c .if3 .taken))
+
+returns-4 : tie.Need-returns-4 Inv-loop μ-loop
+unfolding headers
+returns-4 c =
+    let at-if1 = c .before .before .before .before .if1 in
+    let at-loop = c .before .before .before .loop in
+    let at-args = c .before .before .before .before .before .args in
     c .keys-differ .ensures ∙ sym (and-next _ _ (le-leb _ 8 (at-if1 .left)) ∙ and-next _ _ (at-loop .inv .2 ∙ item-end header (at-args .t1 .items) (at-args .t1 .count) (at-loop .i) (omega arith) (omega arith)))
 
 pub are-headers-spec : {M : Type 1} → statement M
@@ -63,5 +71,6 @@ are-headers-spec =
     (λ c. search needs)
     (λ c. search needs)
     loop-again
+    returns-3
     (λ c κs. search needs)
-    returns-3)
+    returns-4)
