@@ -16,7 +16,3 @@ says-way = record { none = (refl, refl); some = λ a n. (refl, refl, refl) }
 
 pub says-headers : Answers headersFound (λ (r : HeadersFound). r .ok) (λ (r : HeadersFound). r .headers) (λ (r : HeadersFound). r .used)
 says-headers = record { none = (refl, refl); some = λ a n. (refl, refl, refl) }
-
--- an answer is what it says
-pub way-whole : (r : WayFound) → r .ok ≡ true → r ≡ wayFound (got (wayIn r) (r .used))
-way-whole r e = ap (λ (b : Bool). record { ok = b; used = r .used; flood = r .flood; route = r .route; hops = r .hops }) e

@@ -31,8 +31,15 @@ pub struct HeadersFound {
 pub fn read_way(d: &[u8], flags: Flags) -> WayFound
     ensures { λ r. ⌜ r ≡ wayFound (way flags .parse (now (d .entry))) ⌝ }
 {
-    let r = routes::read_three(d, flags);
-    if !r.ok {
+    let a = datagram_numbers::read_flood(d, flags.flood);
+    let n1 = a.used;
+    let d1 = &d[n1..];
+    let b = routes::read_route(d1, flags.route);
+    let n2 = b.used;
+    let d2 = &d1[n2..];
+    let c = routes::read_route(d2, flags.hops);
+    let ok = datagram_numbers::both(a.ok, datagram_numbers::both(b.ok, c.ok));
+    if !ok {
         let route = layout::no_hops();
         let hops = layout::no_hops();
         return WayFound {
@@ -43,7 +50,15 @@ pub fn read_way(d: &[u8], flags: Flags) -> WayFound
             hops,
         };
     }
-    r
+    let route = b.hops;
+    let hops = c.hops;
+    WayFound {
+        ok: true,
+        used: n1 + (n2 + c.used),
+        flood: a.value,
+        route,
+        hops,
+    }
 }
 
 // The headers, where the flag is set: 1 to 8 of them.

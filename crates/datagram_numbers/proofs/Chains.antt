@@ -49,6 +49,13 @@ pub three-found : {A B C : Type 0} (F : Field A) (G : Field B) (H : Field C) (s 
 three-found F G H s oa ob oc a b c n m j f g h =
     seq-found F (λ a. seq G (λ b. H)) s oa (ob and oc) a (b, c) n (m + j) f (two-found G H (tail n s) ob oc b c m j g h)
 
+-- three, with the code's answer whether all are there
+pub three-joined : {A B C : Type 0} (F : Field A) (G : Field B) (H : Field C) (s : List ℕ) (oa ob oc ok later : Bool) (a : A) (b : B) (c : C) (n m j : ℕ)
+    → later ≡ (ob and oc) → ok ≡ (oa and later)
+    → finding (F .parse s) s oa a n → finding (G .parse (tail n s)) (tail n s) ob b m → finding (H .parse (tail m (tail n s))) (tail m (tail n s)) oc c j
+    → finding (seq F (λ a. seq G (λ b. H)) .parse s) s ok (a, (b, c)) (n + (m + j))
+three-joined F G H s oa ob oc ok later a b c n m j p q f g h = rw (q, p) (three-found F G H s oa ob oc a b c n m j f g h)
+
 -- four, of which the first tells what the others are
 pub four-found : {A B C D : Type 0} (F : Field A) (G : A → Field B) (H : A → Field C) (K : A → Field D) (s : List ℕ) (oa ob oc od : Bool) (a : A) (b : B) (c : C) (d : D)
     (n m j i : ℕ) → finding (F .parse s) s oa a n → finding (G a .parse (tail n s)) (tail n s) ob b m

@@ -33,9 +33,3 @@ says-stream = record { none = (refl, refl); some = λ a n. (refl, refl, refl) }
 -- an answer is what it says
 pub header-whole : (r : HeaderFound) → r .ok ≡ true → r ≡ headerFound (got (r .header) (r .used))
 header-whole r e = ap (λ (b : Bool). record { ok = b; used = r .used; header = r .header }) e
-
-pub ends-whole : (r : EndsFound) → r .ok ≡ true → r ≡ endsFound (got (endsIn r) (r .used))
-ends-whole r e = ap (λ (b : Bool). record { ok = b; used = r .used; dst = r .dst; src = r .src; link = r .link }) e
-
-pub stream-whole : (r : StreamFound) → r .ok ≡ true → r ≡ streamFound (got (streamIn r) (r .used))
-stream-whole r e = ap (λ (b : Bool). record { ok = b; used = r .used; sid = r .sid; sn = r .sn; gt = r .gt }) e

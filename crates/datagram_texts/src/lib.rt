@@ -10,7 +10,7 @@ ghost use mathlib.Core.Path.{_≡_};
 ghost use Rattle.layout.specs.Layout.{call, header, ends, streamIf};
 ghost use Rattle.datagram_texts.specs.Found.{hopFound, headerFound, endsFound, streamFound};
 
-mod groups;
+mod blanks;
 mod texts;
 
 pub struct HopFound {
@@ -92,11 +92,27 @@ pub fn read_header(d: &[u8]) -> HeaderFound
 pub fn read_ends(d: &[u8], flags: Flags) -> EndsFound
     ensures { λ r. ⌜ r ≡ endsFound (ends flags .parse (now (d .entry))) ⌝ }
 {
-    let r = groups::read_three(d, flags);
-    if !r.ok {
-        return groups::no_ends();
+    let a = texts::read_address(d);
+    let n1 = a.used;
+    let d1 = &d[n1..];
+    let b = texts::read_call(d1, flags.originator);
+    let n2 = b.used;
+    let d2 = &d1[n2..];
+    let c = texts::read_call(d2, flags.link);
+    let ok = datagram_numbers::both(a.ok, datagram_numbers::both(b.ok, c.ok));
+    if !ok {
+        return blanks::no_ends();
     }
-    r
+    let dst = a.text;
+    let src = b.text;
+    let link = c.text;
+    EndsFound {
+        ok: true,
+        used: n1 + (n2 + c.used),
+        dst,
+        src,
+        link,
+    }
 }
 
 // Stream id, number and gap timeout, where the flag is set.
@@ -104,11 +120,25 @@ pub fn read_stream(d: &[u8], has: bool) -> StreamFound
     ensures { λ r. ⌜ r ≡ streamFound (streamIf has .parse (now (d .entry))) ⌝ }
 {
     if !has {
-        return groups::no_stream(true);
+        return blanks::no_stream(true);
     }
-    let r = groups::read_named(d);
-    if !r.ok {
-        return groups::no_stream(false);
+    let a = texts::read_name(d);
+    let n1 = a.used;
+    let d1 = &d[n1..];
+    let b = datagram_numbers::number32(d1);
+    let n2 = b.used;
+    let d2 = &d1[n2..];
+    let c = datagram_numbers::number32(d2);
+    let ok = datagram_numbers::both(a.ok, datagram_numbers::both(b.ok, c.ok));
+    if !ok {
+        return blanks::no_stream(false);
     }
-    r
+    let sid = a.text;
+    StreamFound {
+        ok: true,
+        used: n1 + (n2 + c.used),
+        sid,
+        sn: b.value,
+        gt: c.value,
+    }
 }

@@ -5,12 +5,13 @@ use native.Mathlib.Omega.{arith}
 use native.Mathlib.Nat.{pos-of-ne-zero}
 use borrow.Author.Needs.{needs}
 use lib.ListN.{length, length-set}
+use Rattle.layout.specs.Texts.{noHops}
 use Rattle.layout.specs.Layout.{call}
+use Rattle.layout.specs.declared.Hops.{Hops}
 use Rattle.layout.proofs.Laws.{call-laws}
 use Rattle.datagram_numbers.proofs.Answers.{said}
 use Rattle.datagram_numbers.proofs.Chains.{tail-length}
 use Rattle.datagram_texts.proofs.Says.{says-hop}
-use Rattle.datagram_lists.specs.declared.routes.HopsFound.{HopsFound}
 use Rattle.datagram_lists.proofs.Behind.{hops-none, hops-more}
 use Prim.Native.Nat.{ℕ, _<_}
 use borrow.Fn.Kinds.{In}
@@ -18,9 +19,9 @@ use borrow.Fn.PlainCycle.{Measures, is, falls, and}
 use Rattle.datagram_lists.proofs.routes.read_hops.Reads as read-hops
 use Rattle.datagram_lists.proofs.routes.read_hops.Kinds as read-hops-kinds
 use Rattle.datagram_lists.proofs.routes.+read_hops.Lts-read_hops as read-hops-lts
-use Rattle.datagram_lists.proofs.routes.blank.Reads as blank-reads
 use Rattle.datagram_numbers.proofs.both.Reads as both-reads
 use Rattle.datagram_texts.proofs.read_hop.Reads as read-hop-reads
+use Rattle.layout.proofs.no_hops.Reads as no-hops-reads
 use Rattle.datagram_lists.proofs.routes.+read_hops.{statement}
 use Rattle.datagram_lists.proofs.routes.+read_hops.Tie.{close}
 
@@ -35,8 +36,8 @@ read-hops-below t =
     and 1 read-hops-kinds.ps (falls 1 read-hops-kinds.ps _<_ μ-read-hops t) read-hops.Pre
 
 read-hops-returns : (t : ℕ) → read-hops-lts.Need-returns (
-  blank-reads.Asked,
-  blank-reads.Learnt,
+  no-hops-reads.Asked,
+  no-hops-reads.Learnt,
   read-hop-reads.Asked,
   read-hop-reads.Learnt,
   read-hops-below t,
@@ -44,13 +45,16 @@ read-hops-returns : (t : ℕ) → read-hops-lts.Need-returns (
   both-reads.Asked,
   both-reads.Learnt,
 ) (read-hops-at t) read-hops.Post
+unfolding noHops
 read-hops-returns t c =
-    let at-args = c .before .before .before .args in
-    (rw (c .blank .ensures) (hops-none (at-args .k) (at-args .at) (at-args .d .now) _ (c .before .if1 .taken) refl), ap (λ (r : HopsFound). length (r .items)) (c .blank .ensures))
+    let at-no-hops = c .before .no-hops in
+    let at-args = c .before .before .before .before .args in
+    let at-if1 = c .before .before .if1 in
+    (rw (at-no-hops .ensures) (hops-none (at-args .k) (at-args .at) (at-args .d .now) _ (at-if1 .taken) refl), ap (λ (h : Hops). length (h .items)) (at-no-hops .ensures))
 
 read-hops-sub-read-hops : (t : ℕ) → read-hops-lts.Need-sub-read-hops (
-  blank-reads.Asked,
-  blank-reads.Learnt,
+  no-hops-reads.Asked,
+  no-hops-reads.Learnt,
   read-hop-reads.Asked,
   read-hop-reads.Learnt,
   read-hops-below t,
@@ -64,8 +68,8 @@ read-hops-sub-read-hops t c =
     (said says-hop (call 1) (call-laws 1) (at-args .d .now) (at-read-hop .result) (at-read-hop .ensures)) .1
 
 read-hops-part-read-hops-start : (t : ℕ) → read-hops-lts.Need-part-read-hops-start (
-  blank-reads.Asked,
-  blank-reads.Learnt,
+  no-hops-reads.Asked,
+  no-hops-reads.Learnt,
   read-hop-reads.Asked,
   read-hop-reads.Learnt,
   read-hops-below t,
@@ -79,8 +83,8 @@ read-hops-part-read-hops-start t c =
     (said says-hop (call 1) (call-laws 1) (at-args .d .now) (at-read-hop .result) (at-read-hop .ensures)) .1
 
 read-hops-read-hops-requires : (t : ℕ) → read-hops-lts.Need-read-hops-requires (
-  blank-reads.Asked,
-  blank-reads.Learnt,
+  no-hops-reads.Asked,
+  no-hops-reads.Learnt,
   read-hop-reads.Asked,
   read-hop-reads.Learnt,
   read-hops-below t,
@@ -94,8 +98,8 @@ read-hops-read-hops-requires t c κs =
     (omega (arith, at-pre .0, pos-of-ne-zero (at-if1 .left)), omega (arith, at-pre .1, pos-of-ne-zero (at-if1 .left)))
 
 read-hops-add-used : (t : ℕ) → read-hops-lts.Need-add-used (
-  blank-reads.Asked,
-  blank-reads.Learnt,
+  no-hops-reads.Asked,
+  no-hops-reads.Learnt,
   read-hop-reads.Asked,
   read-hop-reads.Learnt,
   read-hops-below t,
@@ -110,8 +114,8 @@ read-hops-add-used t c =
     omega (arith, (said says-hop (call 1) (call-laws 1) (at-args .d .now) (at-read-hop .result) (at-read-hop .ensures)) .1, c .read-hops .ensures .0 .1, tail-length (at-read-hop .result .used) (at-args .d .now), at-good .0)
 
 read-hops-returns-2 : (t : ℕ) → read-hops-lts.Need-returns-2 (
-  blank-reads.Asked,
-  blank-reads.Learnt,
+  no-hops-reads.Asked,
+  no-hops-reads.Learnt,
   read-hop-reads.Asked,
   read-hop-reads.Learnt,
   read-hops-below t,
@@ -128,8 +132,8 @@ read-hops-returns-2 t c =
 
 pub +read-hops-spec : {M : Type 1} → statement M
 +read-hops-spec = close μ-read-hops λ t. read-hops-lts.spec (
-  blank-reads.Asked,
-  blank-reads.Learnt,
+  no-hops-reads.Asked,
+  no-hops-reads.Learnt,
   read-hop-reads.Asked,
   read-hop-reads.Learnt,
   read-hops-below t,
