@@ -1,9 +1,10 @@
 -- Document 01, "Streams": a row as the paper has it, with the list of its held messages; the rules that it keeps, and its three calls.
-use Prim.Native.Nat.{ℕ, _+_, _-_, max}
-use mathlib.Core.Bool.{Bool}
+use Prim.Native.Nat.{ℕ, _+_, max}
+use mathlib.Core.Bool.{Bool, false}
 use mathlib.Core.List.{List, [], _∷_}
-use Rattle.octets.specs.Words.{if_then_else_, _and_, _or_, every, between, _<?_, _≤?_, _=?_}
+use Rattle.octets.specs.Words.{if_then_else_, _and_, every, between, _<?_, _≤?_}
 use Rattle.refusals.specs.Numbers.{stale, alreadyHeld, rowFull}
+use Rattle.row_numbers.specs.Numbers.{timedBy, startAfter, dueNumber}
 use Rattle.places.specs.declared.Held.{Held}
 pub use Rattle.places.specs.Messages.{word, words, ascending, above, holds, insert, gapOpen}
 use Rattle.rows.specs.Answer.{accepted, given, nothing, Outcome, refuse}
@@ -27,7 +28,7 @@ ordered s = between 1 4294967296 (s .expected) and ascending (s .expected) (s .h
 
 -- gap start is at most the clock, and 0 where no gap is open
 abbrev pub timed : Stream → Bool
-timed s = s .gapStart ≤? s .clock and (gapOpen (s .expected) (s .held) or s .gapStart =? 0)
+timed s = timedBy (s .clock) (s .gapStart) (gapOpen (s .expected) (s .held))
 
 -- times are 0 to 4294967295, and so are the numbers, timeouts and slips
 abbrev pub small : Stream → Bool
@@ -44,7 +45,7 @@ keeps s = ordered s and timed s and small s
 abbrev pub accept : Stream → Held → ℕ → Outcome Stream
 accept s m clock =
     let held = insert m (s .held) in
-    let start = if gapOpen (s .expected) held then (if gapOpen (s .expected) (s .held) then s .gapStart else clock) else 0 in
+    let start = startAfter (gapOpen (s .expected) (s .held)) (gapOpen (s .expected) held) (s .gapStart) clock in
     record { answer = accepted; after = record { expected = s .expected; clock = clock; gapStart = start; held = held } }
 
 -- below expected is stale; what is held is not held again; above expected with 15 such held is row full
@@ -63,12 +64,12 @@ stay s clock = record { answer = nothing; after = record { expected = s .expecte
 abbrev pub give : Held → List Held → ℕ → Outcome Stream
 give m rest clock =
     let next = m .number + 1 in
-    let start = if gapOpen next rest then clock else 0 in
+    let start = startAfter false (gapOpen next rest) 0 clock in
     record { answer = given (m .number) (m .slip); after = record { expected = next; clock = clock; gapStart = start; held = rest } }
 
 -- the lowest held is due if it is expected, or if its timeout is above 0 and clock minus gap start is at least that timeout
 abbrev pub due : Stream → Held → ℕ → Bool
-due s m clock = m .number =? s .expected or (0 <? m .timeout and m .timeout ≤? clock - s .gapStart)
+due s m clock = dueNumber (m .number) (m .timeout) (s .expected) (s .gapStart) clock
 
 abbrev pub takeFrom : Stream → ℕ → List Held → Outcome Stream
 takeFrom s clock [] = stay s clock
