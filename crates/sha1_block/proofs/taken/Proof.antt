@@ -3,8 +3,8 @@ use mathlib.Core.Path.{sym, ap, _∙_}
 use borrow.Author.Needs.{needs}
 use borrow.Author.Tests.{eq-eqb, ne-eqb}
 use lib.Seq.{take-all}
-use Rattle.sha1_block.specs.Block as fips
 use Rattle.octets.proofs.Tests.{if-yes, if-no}
+use Rattle.sha1_block.specs.Block as fips
 use Rattle.sha1_block.proofs.taken.Statement.{statement}
 use Rattle.sha1_block.proofs.taken.Tie as tie
 
