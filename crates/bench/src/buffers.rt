@@ -2,6 +2,7 @@
 // call is lent one part each: in `memory` the fragment store and the payload buffer, in `out` the reply buffer and the room for an
 // answer's bytes, one behind the other.
 use crate::command::Command;
+use crate::command::part;
 use crate::forms;
 use crate::say;
 use crate::say::say;
@@ -26,24 +27,38 @@ pub(crate) struct Lent {
     pub(crate) store: usize,
 }
 
-// The command's `lend` or `store`.
-pub(crate) fn lend(c: Command, mut lent: Lent) -> Lent {
-    if c.verb == forms::LEND {
-        lent.payload = c.z as usize;
-        lent.reply = c.t as usize;
-        say(say::LENT);
-        return lent;
+// All of each buffer.
+pub(crate) fn whole() -> Lent {
+    Lent {
+        payload: PAYLOAD,
+        reply: REPLY,
+        store: STORE,
     }
-    if c.verb == forms::STORE {
-        lent.store = c.t as usize;
-        say(say::LENT);
-        return lent;
+}
+
+pub(crate) fn obey(c: Command, mut lent: Lent, memory: &mut [u8], out: &mut [u8]) -> Lent {
+    let verb = c.verb;
+    match verb {
+        forms::LEND => {
+            lent.payload = c.z as usize;
+            lent.reply = c.t as usize;
+            say(say::LENT);
+        }
+        forms::STORE => {
+            lent.store = c.t as usize;
+            say(say::LENT);
+        }
+        forms::FILL => fill(memory, out, c.t),
+        forms::PEEK_PAYLOAD => peek(memory, STORE, PAYLOAD, c.z, c.t),
+        forms::PEEK_REPLY => peek(out, 0, REPLY, c.z, c.t),
+        forms::PEEK_STORE => peek(memory, 0, STORE, c.z, c.t),
+        _ => return lent,
     }
     lent
 }
 
 // Every byte of all buffers.
-pub(crate) fn fill(memory: &mut [u8], out: &mut [u8], n: u32) {
+fn fill(memory: &mut [u8], out: &mut [u8], n: u32) {
     let b = (n % 256) as u8;
     fill_all(memory, b);
     fill_all(out, b);
@@ -58,17 +73,18 @@ fn fill_all(s: &mut [u8], b: u8) {
     }
 }
 
-// The bytes that a command asks for of a buffer.
-pub(crate) fn peek(buffer: &[u8], at: u32, len: u32) {
-    let from = at as usize;
+// The `len` bytes from the place `at` on, of the buffer that is the part of a memory from `from` on with `size` bytes.
+fn peek(memory: &[u8], from: usize, size: usize, at: u32, len: u32) {
+    let buffer = part(memory, from, size);
+    let first = at as usize;
     let n = len as usize;
-    if from > buffer.len() {
+    if first > buffer.len() {
         say(say::BAD_COMMAND);
         return;
     }
-    if buffer.len() - from < n {
+    if buffer.len() - first < n {
         say(say::BAD_COMMAND);
         return;
     }
-    say_bytes(say::BYTES, &buffer[from..], n);
+    say_bytes(say::BYTES, &buffer[first..], n);
 }

@@ -1,5 +1,5 @@
 // The commands on the fragment groups and their store: `fragment`, `collect` and `sweep`.
-use crate::buffers;
+use crate::buffers::REPLY;
 use crate::command::Command;
 use crate::command::lent;
 use crate::command::part;
@@ -30,7 +30,7 @@ pub(crate) fn obey(
             b,
             groups,
             lent(memory, 0, store_len),
-            lent(out, buffers::REPLY, c.t as usize),
+            lent(out, REPLY, c.t as usize),
         ),
         forms::SWEEP => served(node::sweep_groups(groups, c.t), b),
         _ => groups,

@@ -8,7 +8,6 @@ mod fields;
 mod forms;
 mod fragment_calls;
 mod messages;
-mod obey;
 mod say;
 mod script;
 mod sessions;

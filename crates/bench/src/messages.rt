@@ -1,8 +1,5 @@
-// The commands that keep nothing but bytes: hashes and ids, lines and datagrams, read, or read and written again, and `fill` and `peek`.
-use crate::buffers;
-use crate::buffers::PAYLOAD;
+// The commands that keep nothing but bytes: hashes and ids, and lines and datagrams, read, or read and written again.
 use crate::buffers::REPLY;
-use crate::buffers::STORE;
 use crate::command::BAD;
 use crate::command::Command;
 use crate::command::lent;
@@ -16,39 +13,28 @@ use crate::say::say_bytes;
 use crate::say::say_id;
 use crate::say::say_number;
 use libc::STDOUT_FILENO;
-use node::Datagram;
 use node::DatagramReading;
 use node::DatagramWriting;
 use node::Hash;
 use node::IdAnswer;
-use node::Line;
 use node::LineReading;
 use node::LineWriting;
 use node::Salt;
 use node::Sha1;
 
-pub(crate) fn obey(c: Command, line: &[u8], memory: &mut [u8], out: &mut [u8]) {
+pub(crate) fn obey(c: Command, line: &[u8], out: &mut [u8]) {
     let verb = c.verb;
-    let bytes = part(line, c.b_at, c.b_len);
+    let b = part(line, c.b_at, c.b_len);
+    let room = lent(out, REPLY, c.t as usize);
     match verb {
-        forms::SHA1 => sha1(Sha1::new().feed_all(bytes).finish()),
-        forms::CRC => crc(bytes),
-        forms::UTF8 => utf8(bytes),
-        forms::ID => id(c.has_salt, c.salt, bytes),
-        forms::LINE | forms::RELINE => {
-            read_line(bytes, verb == forms::RELINE, lent(out, REPLY, c.t as usize))
-        }
-        forms::DATAGRAM | forms::REDATAGRAM => {
-            read_datagram(
-                bytes,
-                verb == forms::REDATAGRAM,
-                lent(out, REPLY, c.t as usize),
-            )
-        }
-        forms::FILL => buffers::fill(memory, out, c.t),
-        forms::PEEK_PAYLOAD => buffers::peek(part(memory, STORE, PAYLOAD), c.z, c.t),
-        forms::PEEK_REPLY => buffers::peek(part(out, 0, REPLY), c.z, c.t),
-        forms::PEEK_STORE => buffers::peek(part(memory, 0, STORE), c.z, c.t),
+        forms::SHA1 => sha1(Sha1::new().feed_all(b).finish()),
+        forms::CRC => crc(b),
+        forms::UTF8 => utf8(b),
+        forms::ID => id(c.has_salt, c.salt, b),
+        forms::LINE => read_line(b, false, room),
+        forms::RELINE => read_line(b, true, room),
+        forms::DATAGRAM => read_datagram(b, false, room),
+        forms::REDATAGRAM => read_datagram(b, true, room),
         BAD => say(say::BAD_COMMAND),
         _ => return,
     }
@@ -83,46 +69,45 @@ fn id(given: bool, value: i64, bytes: &[u8]) {
     }
 }
 
+// The line's fields, or the line written again.
 fn read_line(bytes: &[u8], again: bool, room: &mut [u8]) {
     let r = node::read_line(bytes);
     let reading = r.reading;
-    match reading {
-        LineReading::Read => say_line(r.line, again, room),
-        LineReading::Refused(number) => refused(number),
-    }
-}
-
-// The line's fields, or the line written again.
-fn say_line(m: Line, again: bool, room: &mut [u8]) {
-    if !again {
-        fields::say_line(say::OK, m);
+    if let LineReading::Refused(number) = reading {
+        refused(number);
         return;
     }
-    let w = node::write_line(m, room);
+    if !again {
+        fields::say_line(say::OK, r.line);
+        return;
+    }
+    say_line_again(node::write_line(r.line, room), room);
+}
+
+fn say_line_again(w: LineWriting, room: &[u8]) {
     match w {
         LineWriting::Written(len) => say_bytes(say::REWRITTEN, room, len),
         LineWriting::Refused(number) => say_number(say::UNWRITTEN, number as u32),
     }
 }
 
+// The datagram's fields, or the datagram written again.
 fn read_datagram(bytes: &[u8], again: bool, room: &mut [u8]) {
     let r = node::read_datagram(bytes);
     let reading = r.reading;
-    match reading {
-        DatagramReading::Read => {
-            if again {
-                let payload = node::payload(bytes, r.payload_at, r.payload_len);
-                write_datagram(r.message, payload, room);
-            } else {
-                fields::say_datagram(r.message, r.payload_at, r.payload_len);
-            }
-        }
-        DatagramReading::Refused(number) => refused(number),
+    if let DatagramReading::Refused(number) = reading {
+        refused(number);
+        return;
     }
+    if !again {
+        fields::say_datagram(r.message, r.payload_at, r.payload_len);
+        return;
+    }
+    let payload = node::payload(bytes, r.payload_at, r.payload_len);
+    say_datagram_again(node::write_datagram(r.message, payload, room), room);
 }
 
-fn write_datagram(m: Datagram, payload: &[u8], room: &mut [u8]) {
-    let w = node::write_datagram(m, payload, room);
+fn say_datagram_again(w: DatagramWriting, room: &[u8]) {
     match w {
         DatagramWriting::Written(len) => say_bytes(say::REWRITTEN, room, len),
         DatagramWriting::Refused(number) => say_number(say::UNWRITTEN, number as u32),

@@ -1,5 +1,4 @@
 // Answers, said to standard output piece by piece.
-use crate::command::SILENT;
 use crate::command::part;
 use crate::forms::end_of;
 use libc::STDOUT_FILENO;
@@ -9,7 +8,7 @@ ghost use lib.ListN.{length};
 // The numbers of the words that answers are made of, in the order of the table in `say`.
 pub(crate) const BAD_COMMAND: u8 = 0;
 
-const LF: u8 = 1;
+pub(crate) const LF: u8 = 1;
 
 pub(crate) const REFUSED: u8 = 2;
 
@@ -164,13 +163,6 @@ swept|
  s=-|
 ";
     say_nth(words, word);
-}
-
-// Ends the answer to the command of that number.
-pub(crate) fn end(verb: u8) {
-    if verb != SILENT {
-        say(LF);
-    }
 }
 
 // Says the word of that number, of words that end at a bar and an LF.

@@ -1,29 +1,42 @@
 // The script: standard input cut into lines, each answered as soon as it is read.
+use crate::buffers;
 use crate::buffers::MEMORY;
 use crate::buffers::OUT;
+use crate::command::SILENT;
 use crate::forms;
+use crate::fragment_calls;
 use crate::messages;
-use crate::obey;
 use crate::say;
+use crate::say::say;
+use crate::sessions;
+use crate::stream_calls;
 use libc::STDIN_FILENO;
+use node::Groups;
+use node::Table;
 
 // The room for a line: its longest and one byte more, by which a line that is too long is known.
 pub(crate) const LINE: usize = forms::LONGEST_LINE + 1;
 
-// What stands for a byte where the input has ended.
-const ENDED: u32 = 256;
-
-// Answers a whole script. Nothing says that the input ends, and a proved loop has to; so it counts its turns down, from a number that
-// no run uses up.
+// Answers a whole script. Each area is handed each command with what the area keeps from one to the next; only the one that the command
+// belongs to changes anything, and says its answer.
+// Nothing says that the input ends, and a proved loop has to; so it counts its turns down, from a number that no run uses up.
 pub(crate) fn run(line: &mut [u8; LINE], memory: &mut [u8; MEMORY], out: &mut [u8; OUT]) {
     let mut turns = u64::MAX;
-    let mut kept = obey::fresh();
+    let mut session = sessions::none();
+    let mut table = Table::new();
+    let mut groups = Groups::new();
+    let mut lent = buffers::whole();
     while turns > 0 {
         let got = read_line(line);
         let c = forms::parse(line, got.len);
-        kept = obey::obey(c, line, kept, memory, out);
-        messages::obey(c, line, memory, out);
-        say::end(c.verb);
+        session = sessions::obey(c, line, session, lent, memory, out);
+        table = stream_calls::obey(c, line, table, out);
+        groups = fragment_calls::obey(c, line, groups, lent.store, memory, out);
+        lent = buffers::obey(c, lent, memory, out);
+        messages::obey(c, line, out);
+        if c.verb != SILENT {
+            say(say::LF);
+        }
         if got.ended {
             return;
         }
@@ -37,35 +50,23 @@ struct Got {
     ended: bool,
 }
 
-// Reads a line up to its LF or the input's end, by a loop that counts its turns down as `run` does.
+// Reads a line up to its LF or the input's end, by a loop that counts its turns down as `run` does: a byte at a time, so that none behind
+// the line is taken before the line is answered.
 fn read_line(line: &mut [u8; LINE]) -> Got {
     let mut turns = u64::MAX;
     let mut len: usize = 0;
     while turns > 0 {
-        let b = next();
-        if b == b'\n' as u32 {
-            return Got { len, ended: false };
-        }
-        if b >= ENDED {
+        let mut byte = [0u8; 1];
+        if libc::read(STDIN_FILENO, &mut byte) < 1 {
             break;
         }
-        len = keep(line, len, b as u8);
+        if byte[0] == b'\n' {
+            return Got { len, ended: false };
+        }
+        len = keep(line, len, byte[0]);
         turns -= 1;
     }
     Got { len, ended: true }
-}
-
-// The next byte of the input: one at a time, so that no byte behind a line is taken before the line is answered.
-fn next() -> u32 {
-    let mut b = [0u8; 1];
-    if libc::read(STDIN_FILENO, &mut b) < 1 {
-        return ENDED;
-    }
-    wide(b[0])
-}
-
-fn wide(b: u8) -> u32 {
-    b as u32
 }
 
 // A line's length with one byte more; past its room no byte is kept.

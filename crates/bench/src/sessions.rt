@@ -1,6 +1,6 @@
 // `open` and `feed B`: the receiving session, one call a command. A call that is refused leaves the session.
-use crate::buffers;
 use crate::buffers::Lent;
+use crate::buffers::STORE;
 use crate::command::Command;
 use crate::command::lent;
 use crate::command::part;
@@ -19,77 +19,64 @@ use node::Line;
 use node::Session;
 use node::Step;
 use node::Stepping;
-use node::Terms;
 
-// The session, and whether one was opened yet.
-pub(crate) struct Talk {
-    session: Session,
-    is_open: bool,
-}
+// The mode that stands for no session: no call makes one of it.
+const NO_SESSION: u8 = 255;
 
-// The session of a refused opening stands for none.
-pub(crate) fn none() -> Talk {
+// No session yet: that of a refused opening, with its mode changed.
+pub(crate) fn none() -> Session {
     let mut no_room = [0u8; 1];
-    let none = node::open_session(&mut no_room);
-    let session = none.session;
-    Talk {
-        session,
-        is_open: false,
-    }
+    let refused = node::open_session(&mut no_room);
+    let mut session = refused.session;
+    session.mode = NO_SESSION;
+    session
 }
 
 pub(crate) fn obey(
     c: Command,
     line: &[u8],
-    talk: Talk,
+    session: Session,
     lens: Lent,
     memory: &mut [u8],
     out: &mut [u8],
-) -> Talk {
+) -> Session {
     let verb = c.verb;
     match verb {
-        forms::OPEN => open(talk, lent(out, 0, lens.reply)),
+        forms::OPEN => open(session, lent(out, 0, lens.reply)),
         forms::FEED => feed(
-            talk,
+            session,
             part(line, c.b_at, c.b_len),
-            lent(memory, buffers::STORE, lens.payload),
+            lent(memory, STORE, lens.payload),
             lent(out, 0, lens.reply),
         ),
-        _ => talk,
+        _ => session,
     }
 }
 
-fn open(talk: Talk, reply: &mut [u8]) -> Talk {
+fn open(session: Session, reply: &mut [u8]) -> Session {
     let opened = node::open_session(reply);
     let stepping = opened.stepping;
     match stepping {
         Stepping::Went => {
             say_bytes(say::REPLY, reply, opened.written);
-            open_with(opened.session)
+            opened.session
         }
         Stepping::Refused(number) => {
             refused(number);
-            talk
+            session
         }
-    }
-}
-
-fn open_with(session: Session) -> Talk {
-    Talk {
-        session,
-        is_open: true,
     }
 }
 
 // Before any `open` there is no session to feed.
-fn feed(talk: Talk, piece: &[u8], payload: &mut [u8], reply: &mut [u8]) -> Talk {
-    if !talk.is_open {
+fn feed(session: Session, piece: &[u8], payload: &mut [u8], reply: &mut [u8]) -> Session {
+    if session.mode == NO_SESSION {
         say(say::BAD_COMMAND);
-        return talk;
+        return session;
     }
-    let step = node::feed(talk.session, piece, payload, reply);
+    let step = node::feed(session, piece, payload, reply);
     stepped(step, reply);
-    open_with(step.session)
+    step.session
 }
 
 // What a step used, what happened, and its reply.
@@ -110,13 +97,11 @@ fn say_event(event: Event, offered: Line) {
     match event {
         Event::Nothing => say(say::NO_EVENT),
         Event::Offer(_) => fields::say_line(say::OFFER, offered),
-        Event::Message(t) => say_received(t),
+        Event::Message(t) => {
+            say_id(say::MESSAGE, t.id);
+            say_salt(t.has_salt, t.salt);
+            say_number(say::LEN, t.len);
+        }
         Event::End(ending) => say_number(say::END, ending.reason as u32),
     }
-}
-
-fn say_received(t: Terms) {
-    say_id(say::MESSAGE, t.id);
-    say_salt(t.has_salt, t.salt);
-    say_number(say::LEN, t.len);
 }

@@ -1,5 +1,5 @@
 // The commands on the stream table: `offer`, `take`, `force`, `close`, `save` and `load`.
-use crate::buffers;
+use crate::buffers::REPLY;
 use crate::command::Command;
 use crate::command::lent;
 use crate::command::part;
@@ -26,7 +26,7 @@ pub(crate) fn obey(c: Command, line: &[u8], table: Table, out: &mut [u8]) -> Tab
         forms::FORCE => taken(table.force(a, b, c.t)),
         forms::CLOSE => served(table.close(a, b), say::CLOSED),
         forms::LOAD => load(b, table),
-        forms::SAVE => save(table, lent(out, buffers::REPLY, c.t as usize)),
+        forms::SAVE => save(table, lent(out, REPLY, c.t as usize)),
         _ => table,
     }
 }
