@@ -3,6 +3,10 @@
 // N 4294967295, H 65535, L the store's size, R 16,384, P the payload buffer's size, Q the reply buffer's, Y 255.
 use crate::buffers;
 use crate::command::Command;
+use crate::command::part;
+use text::Id;
+use text::Number;
+use text::Signed;
 ghost use Prim.Native.Nat.{_-_, _≤_};
 ghost use lib.ListN.{length};
 
@@ -16,7 +20,6 @@ fn limit(kind: u8) -> usize {
         b'B' | b'R' => buffers::ROOM,
         b'H' => 65535,
         b'L' => buffers::STORE,
-        b'M' => 268435455,
         b'P' => buffers::PAYLOAD,
         b'Q' => buffers::REPLY,
         b'Y' => 255,
@@ -26,22 +29,29 @@ fn limit(kind: u8) -> usize {
 
 // The command with one argument more, whose word begins at the place `at` of the line; no command where the word is not of its kind.
 pub(crate) fn with_argument(c: Command, kind: u8, word: &mut [u8], at: usize) -> Command {
-    let most = limit(kind);
     match kind {
-        b'A' => with_optional(c, word, at, most),
-        b'B' | b'O' => c.with_bytes(at, decode(word), most),
-        b'M' => c.with_number(master_id(word), most),
+        b'A' | b'B' | b'O' => with_bytes(c, kind, word, at),
+        b'M' => c.with_number(master_id(word), 0xFFFFFFF),
         b'S' => with_salt(c, word),
-        _ => c.with_number(number(word), most),
+        _ => c.with_number(number(word), limit(kind)),
     }
 }
 
-fn with_optional(mut c: Command, word: &mut [u8], at: usize, most: usize) -> Command {
-    if is_byte(word, b'~') {
+// With the bytes of one argument more, or absent.
+fn with_bytes(mut c: Command, kind: u8, word: &mut [u8], at: usize) -> Command {
+    if kind == b'A' && is_byte(word, b'~') {
         c.is_absent = true;
         return c;
     }
-    c.with_bytes(at, decode(word), most)
+    let len = decode(word);
+    if len > limit(kind) {
+        return c.bad();
+    }
+    c.a_at = c.b_at;
+    c.a_len = c.b_len;
+    c.b_at = at;
+    c.b_len = len;
+    c
 }
 
 // Whether a word is this byte alone.
@@ -54,95 +64,11 @@ fn is_byte(word: &[u8], b: u8) -> bool {
 
 // A decimal without leading zero.
 fn number(word: &[u8]) -> usize {
-    if word.len() == 0 {
-        return NONE;
+    let n = text::read_number(word, 4294967295);
+    match n {
+        Number::Is(v) => v as usize,
+        Number::Malformed => NONE,
     }
-    if word[0] == b'0' && word.len() > 1 {
-        return NONE;
-    }
-    digits(word, 10)
-}
-
-// The number whose digits to the base 10 or 16 are a word.
-fn digits(word: &[u8], base: usize) -> usize {
-    let mut v: usize = 0;
-    let mut i: usize = 0;
-    while i < word.len() {
-        v = with_digit(v, base, digit(word[i], b'a'));
-        i += 1;
-    }
-    v
-}
-
-// A number with one digit more. None is so large before its last digit as 2 ^ 63 / 10.
-fn with_digit(v: usize, base: usize, d: usize) -> usize {
-    if v > 922337203685477580 {
-        return NONE;
-    }
-    if d >= base {
-        return NONE;
-    }
-    if d > 15 {
-        return NONE;
-    }
-    if base == 10 {
-        return v * 10 + d;
-    }
-    v * 16 + d
-}
-
-// What a hexadecimal digit is worth, whose letters begin at `a`; 16 for a byte that is none.
-fn digit(b: u8, a: u8) -> usize
-    ensures { λ r. ⌜ r ≤ 16 ⌝ }
-{
-    if b < b'0' {
-        return 16;
-    }
-    if b <= b'9' {
-        return (b - b'0') as usize;
-    }
-    if b < a {
-        return 16;
-    }
-    if b - a > 5 {
-        return 16;
-    }
-    (b - a) as usize + 10
-}
-
-// A salt, or `~` for none.
-fn with_salt(c: Command, word: &[u8]) -> Command {
-    if is_byte(word, b'~') {
-        return c;
-    }
-    if word.len() == 0 {
-        return c.bad();
-    }
-    if word[0] == b'-' {
-        return with_negative(c, number(&word[1..]));
-    }
-    with_positive(c, number(word))
-}
-
-fn with_positive(mut c: Command, v: usize) -> Command {
-    if v > 9223372036854775807 {
-        return c.bad();
-    }
-    c.has_salt = true;
-    c.salt = v as i64;
-    c
-}
-
-fn with_negative(mut c: Command, v: usize) -> Command {
-    if v == 0 {
-        return c.bad();
-    }
-    if v > 9223372036854775808 {
-        return c.bad();
-    }
-    c.has_salt = true;
-    c.salt = !((v - 1) as i64);
-    c
 }
 
 // A master id: bytes that are 7 of `0-9a-f`.
@@ -150,10 +76,27 @@ fn master_id(word: &mut [u8]) -> usize {
     if decode(word) != 7 {
         return NONE;
     }
-    if word.len() < 7 {
-        return NONE;
+    let id = text::read_id(part(word, 0, 7));
+    match id {
+        Id::Is(v) => v as usize,
+        Id::Malformed => NONE,
     }
-    digits(&word[0..7], 16)
+}
+
+// A salt, or `~` for none.
+fn with_salt(mut c: Command, word: &[u8]) -> Command {
+    if is_byte(word, b'~') {
+        return c;
+    }
+    let salt = text::read_signed(word);
+    match salt {
+        Signed::Is(v) => {
+            c.has_salt = true;
+            c.salt = v;
+            c
+        }
+        Signed::Malformed => c.bad(),
+    }
 }
 
 // What stands at a place of a word, and how many of its bytes that takes; 0 where it stands for nothing.
@@ -162,44 +105,58 @@ struct Spelling {
     width: usize,
 }
 
-fn no_spelling() -> Spelling
-    ensures { λ r. ⌜ r .width ≤ 0 ⌝ }
-{
-    Spelling { byte: 0, width: 0 }
-}
-
 // A byte from 0x21 to 0x7E but `%` stands for itself, `%XX` for the byte XX.
 fn spelled(word: &[u8], at: usize) -> Spelling
     ensures { λ r. ⌜ r .width ≤ length (now (word .entry)) - at ⌝ }
 {
+    let none = Spelling { byte: 0, width: 0 };
     if at >= word.len() {
-        return no_spelling();
+        return none;
     }
     let c = word[at];
     if c < 0x21 {
-        return no_spelling();
+        return none;
     }
     if c > 0x7E {
-        return no_spelling();
+        return none;
     }
     if c != b'%' {
         return Spelling { byte: c, width: 1 };
     }
     if word.len() - at < 3 {
-        return no_spelling();
+        return none;
     }
-    let high = digit(word[at + 1], b'A');
+    let high = digit(word[at + 1]);
     if high > 15 {
-        return no_spelling();
+        return none;
     }
-    let low = digit(word[at + 2], b'A');
+    let low = digit(word[at + 2]);
     if low > 15 {
-        return no_spelling();
+        return none;
     }
     Spelling {
         byte: (high * 16 + low) as u8,
         width: 3,
     }
+}
+
+// What a digit of `0-9A-F` is worth; 16 for a byte that is none.
+fn digit(b: u8) -> usize
+    ensures { λ r. ⌜ r ≤ 16 ⌝ }
+{
+    if b < b'0' {
+        return 16;
+    }
+    if b <= b'9' {
+        return (b - b'0') as usize;
+    }
+    if b < b'A' {
+        return 16;
+    }
+    if b > b'F' {
+        return 16;
+    }
+    (b - b'A') as usize + 10
 }
 
 // The number of bytes that a word stands for, which are written over its front: `-` is no bytes.

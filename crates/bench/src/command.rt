@@ -63,18 +63,6 @@ impl Command {
         self.t = v as u32;
         self
     }
-
-    // With the bytes of one argument more, whose number has to keep its limit.
-    pub(crate) fn with_bytes(mut self, at: usize, len: usize, limit: usize) -> Command {
-        if len > limit {
-            return self.bad();
-        }
-        self.a_at = self.b_at;
-        self.a_len = self.b_len;
-        self.b_at = at;
-        self.b_len = len;
-        self
-    }
 }
 
 // The part of some bytes that begins at `at` and has `len` of them, or as many as there are.

@@ -32,7 +32,11 @@ pub(crate) fn say_line(word: u8, m: Line) {
 // `ok` and the FIELDS of a datagram, whose payload has `len` bytes from the place `at` on.
 pub(crate) fn say_datagram(m: Datagram, at: usize, len: usize) {
     say(say::OK);
-    say_head(m.fields);
+    say_id(say::ID, m.fields.id);
+    say_salt(m.fields.has_salt, m.fields.salt);
+    number_if(m.fields.has_ttl, say::TTL, m.fields.ttl);
+    say_dst(m.fields.dst);
+    call_if(m.fields.has_src, say::SRC, m.fields.src);
     call_if(m.has_link, say::LINK, m.link);
     number_if(m.has_flood, say::FLOOD, m.flood as u32);
     hops_if(m.has_route, say::ROUTE, m.route);
@@ -40,15 +44,6 @@ pub(crate) fn say_datagram(m: Datagram, at: usize, len: usize) {
     say_groups(m.fields);
     say_size(say::PAYLOAD, at);
     say_size(say::PLUS, len);
-}
-
-// The fields that a datagram begins with.
-fn say_head(f: Envelope) {
-    say_id(say::ID, f.id);
-    say_salt(f.has_salt, f.salt);
-    number_if(f.has_ttl, say::TTL, f.ttl);
-    say_dst(f.dst);
-    call_if(f.has_src, say::SRC, f.src);
 }
 
 fn number_if(on: bool, key: u8, n: u32) {
@@ -63,12 +58,9 @@ fn say_dst(t: AddressText) {
 }
 
 fn call_if(on: bool, key: u8, t: CallText) {
-    if on {
-        say_call(key, t);
+    if !on {
+        return;
     }
-}
-
-fn say_call(key: u8, t: CallText) {
     let bytes = t.bytes;
     say_bytes(key, &bytes, t.len);
 }
@@ -125,7 +117,7 @@ fn hops_if(on: bool, key: u8, h: Hops) {
     let mut before = key;
     let mut i: usize = 0;
     while i < n {
-        say_call(before, items[i]);
+        call_if(true, before, items[i]);
         before = say::COMMA;
         i += 1;
     }

@@ -28,7 +28,9 @@ pub(crate) fn obey(c: Command, line: &[u8], out: &mut [u8]) {
     let room = lent(out, REPLY, c.t as usize);
     match verb {
         forms::SHA1 => sha1(Sha1::new().feed_all(b).finish()),
-        forms::CRC => crc(b),
+        forms::CRC => {
+            io::print_hex(STDOUT_FILENO, node::crc(b) as u64, 4);
+        }
         forms::UTF8 => utf8(b),
         forms::ID => id(c.has_salt, c.salt, b),
         forms::LINE => read_line(b, false, room),
@@ -46,11 +48,6 @@ fn sha1(h: Hash) {
     io::print_hex(STDOUT_FILENO, h.c as u64, 8);
     io::print_hex(STDOUT_FILENO, h.d as u64, 8);
     io::print_hex(STDOUT_FILENO, h.e as u64, 8);
-}
-
-fn crc(bytes: &[u8]) {
-    let chk = node::crc(bytes);
-    io::print_hex(STDOUT_FILENO, chk as u64, 4);
 }
 
 fn utf8(bytes: &[u8]) {

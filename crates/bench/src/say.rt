@@ -106,8 +106,6 @@ pub(crate) const COMMA: u8 = 48;
 
 pub(crate) const NONE: u8 = 49;
 
-const NEGATIVE_SALT: u8 = 50;
-
 // Says a word. The table has one in each line, up to a bar, with the space that stands before or behind it.
 pub(crate) fn say(word: u8) {
     let words = b"bad command|
@@ -160,7 +158,6 @@ swept|
 +|
 ,|
 -|
- s=-|
 ";
     say_nth(words, word);
 }
@@ -207,21 +204,10 @@ pub(crate) fn say_salt(given: bool, v: i64) {
     if !given {
         return;
     }
-    if v < 0 {
-        say(NEGATIVE_SALT);
-    } else {
-        say(SALT);
-    }
-    io::print_decimal(STDOUT_FILENO, magnitude(v));
-}
-
-// A number without its sign.
-fn magnitude(v: i64) -> u64 {
-    if v >= 0 {
-        return v as u64;
-    }
-    let m = -1 - v;
-    m as u64 + 1
+    say(SALT);
+    let mut digits = [0u8; 20];
+    text::write_signed(v, &mut digits, 0);
+    io::write_all(STDOUT_FILENO, part(&digits, 0, text::signed_size(v)));
 }
 
 // The first `n` of some bytes behind their word, as a script writes them: `-` for none; a byte `-` or `~` alone would be taken for none or
@@ -271,17 +257,9 @@ fn plain_end(s: &[u8], at: usize) -> usize
 
 // `%XX`, in capitals.
 fn escape(b: u8) {
-    let text = [b'%', capital(b / 16), capital(b % 16)];
+    let digits = b"0123456789ABCDEF";
+    let high = (b / 16) as usize;
+    let low = (b % 16) as usize;
+    let text = [b'%', digits[high], digits[low]];
     io::write_all(STDOUT_FILENO, &text);
-}
-
-// A digit of `0-9A-F`.
-fn capital(d: u8) -> u8 {
-    if d < 10 {
-        return 0x30 + d;
-    }
-    if d < 16 {
-        return 0x37 + d;
-    }
-    b'?'
 }

@@ -52,7 +52,8 @@ fn load(image: &[u8], table: Table) -> Table {
     l.table
 }
 
-fn giving(answer: Giving) {
+fn taken(t: TableTaken) -> Table {
+    let answer = t.answer;
     match answer {
         Giving::Given(number, slip) => {
             say_number(say::GIVEN, number);
@@ -61,11 +62,6 @@ fn giving(answer: Giving) {
         Giving::Nothing => say(say::NOTHING),
         Giving::Refused(number) => refused(number),
     }
-}
-
-fn taken(t: TableTaken) -> Table {
-    let answer = t.answer;
-    giving(answer);
     t.table
 }
 
