@@ -4,6 +4,7 @@
 use crate::buffers;
 use crate::command::Command;
 use crate::command::part;
+use crate::say::is_plain;
 use text::Id;
 use text::Number;
 use text::Signed;
@@ -114,14 +115,11 @@ fn spelled(word: &[u8], at: usize) -> Spelling
         return none;
     }
     let c = word[at];
-    if c < 0x21 {
-        return none;
-    }
-    if c > 0x7E {
-        return none;
+    if is_plain(c) {
+        return Spelling { byte: c, width: 1 };
     }
     if c != b'%' {
-        return Spelling { byte: c, width: 1 };
+        return none;
     }
     if word.len() - at < 3 {
         return none;

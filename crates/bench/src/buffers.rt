@@ -1,6 +1,5 @@
 // The buffers that calls are lent parts of, and the commands on them: `lend`, `store`, `fill` and `peek`. They stand in two memories, of which a
-// call is lent one part each: in `memory` the fragment store and the payload buffer, in `out` the reply buffer and the room for an
-// answer's bytes, one behind the other.
+// call is lent one part each: in `memory` the fragment store and the payload buffer, one behind the other, in `replies` the reply buffer.
 use crate::command::Command;
 use crate::command::part;
 use crate::forms;
@@ -16,9 +15,8 @@ pub(crate) const MEMORY: usize = STORE + PAYLOAD;
 
 pub(crate) const REPLY: usize = 64;
 
+// The most bytes that a command lends for its answer.
 pub(crate) const ROOM: usize = 16384;
-
-pub(crate) const OUT: usize = REPLY + ROOM;
 
 // How many bytes of each buffer are lent.
 pub(crate) struct Lent {
@@ -36,7 +34,7 @@ pub(crate) fn whole() -> Lent {
     }
 }
 
-pub(crate) fn obey(c: Command, mut lent: Lent, memory: &mut [u8], out: &mut [u8]) -> Lent {
+pub(crate) fn obey(c: Command, mut lent: Lent, memory: &mut [u8], replies: &mut [u8]) -> Lent {
     let verb = c.verb;
     match verb {
         forms::LEND => {
@@ -48,9 +46,9 @@ pub(crate) fn obey(c: Command, mut lent: Lent, memory: &mut [u8], out: &mut [u8]
             lent.store = c.t as usize;
             say(say::LENT);
         }
-        forms::FILL => fill(memory, out, c.t),
+        forms::FILL => fill(memory, replies, c.t),
         forms::PEEK_PAYLOAD => peek(memory, STORE, PAYLOAD, c.z, c.t),
-        forms::PEEK_REPLY => peek(out, 0, REPLY, c.z, c.t),
+        forms::PEEK_REPLY => peek(replies, 0, REPLY, c.z, c.t),
         forms::PEEK_STORE => peek(memory, 0, STORE, c.z, c.t),
         _ => return lent,
     }
@@ -58,10 +56,10 @@ pub(crate) fn obey(c: Command, mut lent: Lent, memory: &mut [u8], out: &mut [u8]
 }
 
 // Every byte of all buffers.
-fn fill(memory: &mut [u8], out: &mut [u8], n: u32) {
+fn fill(memory: &mut [u8], replies: &mut [u8], n: u32) {
     let b = (n % 256) as u8;
     fill_all(memory, b);
-    fill_all(out, b);
+    fill_all(replies, b);
     say(say::FILLED);
 }
 

@@ -1,8 +1,7 @@
 // The commands on the fragment groups and their store: `fragment`, `collect` and `sweep`.
-use crate::buffers::REPLY;
+use crate::buffers::ROOM;
 use crate::command::Command;
 use crate::command::lent;
-use crate::command::part;
 use crate::forms;
 use crate::say;
 use crate::say::refused;
@@ -14,24 +13,16 @@ use node::GroupsServed;
 
 pub(crate) fn obey(
     c: Command,
-    line: &[u8],
+    a: &[u8],
+    b: &[u8],
     groups: Groups,
     store_len: usize,
     memory: &mut [u8],
-    out: &mut [u8],
 ) -> Groups {
     let verb = c.verb;
-    let a = part(line, c.a_at, c.a_len);
-    let b = part(line, c.b_at, c.b_len);
     match verb {
         forms::FRAGMENT => fragment(c, a, b, groups, lent(memory, 0, store_len)),
-        forms::COLLECT => collect(
-            c,
-            b,
-            groups,
-            lent(memory, 0, store_len),
-            lent(out, REPLY, c.t as usize),
-        ),
+        forms::COLLECT => collect(c, b, groups, lent(memory, 0, store_len)),
         forms::SWEEP => served(node::sweep_groups(groups, c.t), b),
         _ => groups,
     }
@@ -58,14 +49,18 @@ fn fragment(
     served(s, bytes)
 }
 
-fn collect(
-    c: Command,
-    originator: &[u8],
-    groups: Groups,
-    store: &mut [u8],
-    room: &mut [u8],
-) -> Groups {
-    let s = node::collect_group(groups, store, !c.is_absent, originator, c.z, room);
+// Into as many lent bytes as the command's last number.
+fn collect(c: Command, originator: &[u8], groups: Groups, store: &mut [u8]) -> Groups {
+    let mut space = [0u8; ROOM];
+    let room: &mut [u8] = &mut space;
+    let s = node::collect_group(
+        groups,
+        store,
+        !c.is_absent,
+        originator,
+        c.z,
+        lent(room, 0, c.t as usize),
+    );
     served(s, room)
 }
 

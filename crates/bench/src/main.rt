@@ -16,6 +16,6 @@ mod stream_calls;
 fn main() {
     let mut line = [0u8; script::LINE];
     let mut memory = [0u8; buffers::MEMORY];
-    let mut out = [0u8; buffers::OUT];
-    script::run(&mut line, &mut memory, &mut out);
+    let mut replies = [0u8; buffers::REPLY];
+    script::run(&mut line, &mut memory, &mut replies);
 }

@@ -1,9 +1,8 @@
 // The commands that keep nothing but bytes: hashes and ids, and lines and datagrams, read, or read and written again.
-use crate::buffers::REPLY;
+use crate::buffers::ROOM;
 use crate::command::BAD;
 use crate::command::Command;
 use crate::command::lent;
-use crate::command::part;
 use crate::fields;
 use crate::forms;
 use crate::say;
@@ -22,10 +21,8 @@ use node::LineWriting;
 use node::Salt;
 use node::Sha1;
 
-pub(crate) fn obey(c: Command, line: &[u8], out: &mut [u8]) {
+pub(crate) fn obey(c: Command, b: &[u8]) {
     let verb = c.verb;
-    let b = part(line, c.b_at, c.b_len);
-    let room = lent(out, REPLY, c.t as usize);
     match verb {
         forms::SHA1 => sha1(Sha1::new().feed_all(b).finish()),
         forms::CRC => {
@@ -33,10 +30,10 @@ pub(crate) fn obey(c: Command, line: &[u8], out: &mut [u8]) {
         }
         forms::UTF8 => utf8(b),
         forms::ID => id(c.has_salt, c.salt, b),
-        forms::LINE => read_line(b, false, room),
-        forms::RELINE => read_line(b, true, room),
-        forms::DATAGRAM => read_datagram(b, false, room),
-        forms::REDATAGRAM => read_datagram(b, true, room),
+        forms::LINE => read_line(b, false, 0),
+        forms::RELINE => read_line(b, true, c.t),
+        forms::DATAGRAM => read_datagram(b, false, 0),
+        forms::REDATAGRAM => read_datagram(b, true, c.t),
         BAD => say(say::BAD_COMMAND),
         _ => return,
     }
@@ -66,8 +63,8 @@ fn id(given: bool, value: i64, bytes: &[u8]) {
     }
 }
 
-// The line's fields, or the line written again.
-fn read_line(bytes: &[u8], again: bool, room: &mut [u8]) {
+// The line's fields, or the line written again into `len` lent bytes.
+fn read_line(bytes: &[u8], again: bool, len: u32) {
     let r = node::read_line(bytes);
     let reading = r.reading;
     if let LineReading::Refused(number) = reading {
@@ -78,7 +75,10 @@ fn read_line(bytes: &[u8], again: bool, room: &mut [u8]) {
         fields::say_line(say::OK, r.line);
         return;
     }
-    say_line_again(node::write_line(r.line, room), room);
+    let mut space = [0u8; ROOM];
+    let room: &mut [u8] = &mut space;
+    let w = node::write_line(r.line, lent(room, 0, len as usize));
+    say_line_again(w, room);
 }
 
 fn say_line_again(w: LineWriting, room: &[u8]) {
@@ -88,8 +88,8 @@ fn say_line_again(w: LineWriting, room: &[u8]) {
     }
 }
 
-// The datagram's fields, or the datagram written again.
-fn read_datagram(bytes: &[u8], again: bool, room: &mut [u8]) {
+// The datagram's fields, or the datagram written again into `len` lent bytes.
+fn read_datagram(bytes: &[u8], again: bool, len: u32) {
     let r = node::read_datagram(bytes);
     let reading = r.reading;
     if let DatagramReading::Refused(number) = reading {
@@ -101,7 +101,10 @@ fn read_datagram(bytes: &[u8], again: bool, room: &mut [u8]) {
         return;
     }
     let payload = node::payload(bytes, r.payload_at, r.payload_len);
-    say_datagram_again(node::write_datagram(r.message, payload, room), room);
+    let mut space = [0u8; ROOM];
+    let room: &mut [u8] = &mut space;
+    let w = node::write_datagram(r.message, payload, lent(room, 0, len as usize));
+    say_datagram_again(w, room);
 }
 
 fn say_datagram_again(w: DatagramWriting, room: &[u8]) {

@@ -1,4 +1,5 @@
 // Answers, said to standard output piece by piece.
+use crate::command::SILENT;
 use crate::command::part;
 use crate::forms::end_of;
 use libc::STDOUT_FILENO;
@@ -8,7 +9,7 @@ ghost use lib.ListN.{length};
 // The numbers of the words that answers are made of, in the order of the table in `say`.
 pub(crate) const BAD_COMMAND: u8 = 0;
 
-pub(crate) const LF: u8 = 1;
+const LF: u8 = 1;
 
 pub(crate) const REFUSED: u8 = 2;
 
@@ -162,6 +163,13 @@ swept|
     say_nth(words, word);
 }
 
+// Ends the answer to the command of that number.
+pub(crate) fn end(verb: u8) {
+    if verb != SILENT {
+        say(LF);
+    }
+}
+
 // Says the word of that number, of words that end at a bar and an LF.
 fn say_nth(words: &[u8], n: u8) {
     let mut left = n;
@@ -246,13 +254,23 @@ fn plain_end(s: &[u8], at: usize) -> usize
 {
     let mut i = at;
     while i < s.len() {
-        let b = s[i];
-        if b < 0x21 || b > 0x7E || b == b'%' {
+        if !is_plain(s[i]) {
             return i;
         }
         i += 1;
     }
     i
+}
+
+// Whether a byte stands for itself: those from 0x21 to 0x7E do, but `%`.
+pub(crate) fn is_plain(b: u8) -> bool {
+    if b < 0x21 {
+        return false;
+    }
+    if b > 0x7E {
+        return false;
+    }
+    b != b'%'
 }
 
 // `%XX`, in capitals.

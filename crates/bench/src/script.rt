@@ -1,13 +1,12 @@
 // The script: standard input cut into lines, each answered as soon as it is read.
 use crate::buffers;
 use crate::buffers::MEMORY;
-use crate::buffers::OUT;
-use crate::command::SILENT;
+use crate::buffers::REPLY;
+use crate::command::part;
 use crate::forms;
 use crate::fragment_calls;
 use crate::messages;
 use crate::say;
-use crate::say::say;
 use crate::sessions;
 use crate::stream_calls;
 use libc::STDIN_FILENO;
@@ -20,7 +19,7 @@ pub(crate) const LINE: usize = forms::LONGEST_LINE + 1;
 // Answers a whole script. Each area is handed each command with what the area keeps from one to the next; only the one that the command
 // belongs to changes anything, and says its answer.
 // Nothing says that the input ends, and a proved loop has to; so it counts its turns down, from a number that no run uses up.
-pub(crate) fn run(line: &mut [u8; LINE], memory: &mut [u8; MEMORY], out: &mut [u8; OUT]) {
+pub(crate) fn run(line: &mut [u8; LINE], memory: &mut [u8; MEMORY], replies: &mut [u8; REPLY]) {
     let mut turns = u64::MAX;
     let mut session = sessions::none();
     let mut table = Table::new();
@@ -29,14 +28,15 @@ pub(crate) fn run(line: &mut [u8; LINE], memory: &mut [u8; MEMORY], out: &mut [u
     while turns > 0 {
         let got = read_line(line);
         let c = forms::parse(line, got.len);
-        session = sessions::obey(c, line, session, lent, memory, out);
-        table = stream_calls::obey(c, line, table, out);
-        groups = fragment_calls::obey(c, line, groups, lent.store, memory, out);
-        lent = buffers::obey(c, lent, memory, out);
-        messages::obey(c, line, out);
-        if c.verb != SILENT {
-            say(say::LF);
-        }
+        let text: &[u8] = line;
+        let a = part(text, c.a_at, c.a_len);
+        let b = part(text, c.b_at, c.b_len);
+        session = sessions::obey(c, b, session, lent, memory, replies);
+        table = stream_calls::obey(c, a, b, table);
+        groups = fragment_calls::obey(c, a, b, groups, lent.store, memory);
+        lent = buffers::obey(c, lent, memory, replies);
+        messages::obey(c, b);
+        say::end(c.verb);
         if got.ended {
             return;
         }

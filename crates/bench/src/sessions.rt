@@ -3,7 +3,6 @@ use crate::buffers::Lent;
 use crate::buffers::STORE;
 use crate::command::Command;
 use crate::command::lent;
-use crate::command::part;
 use crate::fields;
 use crate::forms;
 use crate::say;
@@ -34,20 +33,20 @@ pub(crate) fn none() -> Session {
 
 pub(crate) fn obey(
     c: Command,
-    line: &[u8],
+    piece: &[u8],
     session: Session,
     lens: Lent,
     memory: &mut [u8],
-    out: &mut [u8],
+    replies: &mut [u8],
 ) -> Session {
     let verb = c.verb;
     match verb {
-        forms::OPEN => open(session, lent(out, 0, lens.reply)),
+        forms::OPEN => open(session, lent(replies, 0, lens.reply)),
         forms::FEED => feed(
             session,
-            part(line, c.b_at, c.b_len),
+            piece,
             lent(memory, STORE, lens.payload),
-            lent(out, 0, lens.reply),
+            lent(replies, 0, lens.reply),
         ),
         _ => session,
     }

@@ -1,8 +1,7 @@
 // The commands on the stream table: `offer`, `take`, `force`, `close`, `save` and `load`.
-use crate::buffers::REPLY;
+use crate::buffers::ROOM;
 use crate::command::Command;
 use crate::command::lent;
-use crate::command::part;
 use crate::forms;
 use crate::say;
 use crate::say::refused;
@@ -16,17 +15,15 @@ use node::Table;
 use node::TableServed;
 use node::TableTaken;
 
-pub(crate) fn obey(c: Command, line: &[u8], table: Table, out: &mut [u8]) -> Table {
+pub(crate) fn obey(c: Command, a: &[u8], b: &[u8], table: Table) -> Table {
     let verb = c.verb;
-    let a = part(line, c.a_at, c.a_len);
-    let b = part(line, c.b_at, c.b_len);
     match verb {
         forms::OFFER => served(table.offer(a, b, c.x, c.y, c.z, c.t), say::ACCEPTED),
         forms::TAKE => taken(table.take(a, b, c.t)),
         forms::FORCE => taken(table.force(a, b, c.t)),
         forms::CLOSE => served(table.close(a, b), say::CLOSED),
         forms::LOAD => load(b, table),
-        forms::SAVE => save(table, lent(out, REPLY, c.t as usize)),
+        forms::SAVE => save(table, c.t),
         _ => table,
     }
 }
@@ -65,8 +62,11 @@ fn taken(t: TableTaken) -> Table {
     t.table
 }
 
-fn save(table: Table, room: &mut [u8]) -> Table {
-    let saved = node::save(table, room);
+// Into `len` lent bytes.
+fn save(table: Table, len: u32) -> Table {
+    let mut space = [0u8; ROOM];
+    let room: &mut [u8] = &mut space;
+    let saved = node::save(table, lent(room, 0, len as usize));
     match saved {
         Saved::Written(len) => say_bytes(say::IMAGE, room, len),
         Saved::Refused(number) => refused(number),
