@@ -3,6 +3,7 @@
 // N 4294967295, H 65535, L the store's size, R 16,384, P the payload buffer's size, Q the reply buffer's, Y 255.
 use crate::buffers;
 use crate::command::Command;
+use crate::command::is_byte;
 use crate::command::part;
 use crate::say::is_plain;
 use text::Id;
@@ -53,14 +54,6 @@ fn with_bytes(mut c: Command, kind: u8, word: &mut [u8], at: usize) -> Command {
     c.b_at = at;
     c.b_len = len;
     c
-}
-
-// Whether a word is this byte alone.
-fn is_byte(word: &[u8], b: u8) -> bool {
-    if word.len() != 1 {
-        return false;
-    }
-    word[0] == b
 }
 
 // A decimal without leading zero.

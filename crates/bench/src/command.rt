@@ -79,6 +79,14 @@ pub(crate) fn lent(s: &mut [u8], at: usize, len: usize) -> &mut [u8] {
     &mut s[from..from + n]
 }
 
+// Whether a word is this byte alone.
+pub(crate) fn is_byte(word: &[u8], b: u8) -> bool {
+    if word.len() != 1 {
+        return false;
+    }
+    word[0] == b
+}
+
 // The lesser of a length that is asked for and the one that is there.
 pub(crate) fn within(n: usize, len: usize) -> usize
     ensures { λ r. ⌜ (r ≤ len) × (r ≤ n) ⌝ }

@@ -1,5 +1,6 @@
 // Answers, said to standard output piece by piece.
 use crate::command::SILENT;
+use crate::command::is_byte;
 use crate::command::part;
 use crate::forms::end_of;
 use libc::STDOUT_FILENO;
@@ -227,8 +228,12 @@ pub(crate) fn say_bytes(word: u8, s: &[u8], n: usize) {
         say(NONE);
         return;
     }
-    if front.len() == 1 && (front[0] == b'-' || front[0] == b'~') {
-        escape(front[0]);
+    if is_byte(front, b'-') {
+        escape(b'-');
+        return;
+    }
+    if is_byte(front, b'~') {
+        escape(b'~');
         return;
     }
     spell(front);
