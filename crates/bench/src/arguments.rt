@@ -1,5 +1,5 @@
 // The arguments of a command, by the kind that its form names:
-// B bytes, O bytes of a name, A the same or `~` for absent, S a salt or `~` for none, M a master id, and numbers from 0 to a limit:
+// B bytes, O bytes of a name, T the same or `~` for absent, S a salt or `~` for none, M a master id, and numbers from 0 to a limit:
 // N 4294967295, H 65535, L the store's size, R 16,384, P the payload buffer's size, Q the reply buffer's, Y 255.
 use crate::buffers;
 use crate::command::Command;
@@ -18,7 +18,7 @@ const NONE: usize = 18446744073709551615;
 // The largest number of each kind, or the most bytes once decoded.
 fn limit(kind: u8) -> usize {
     match kind {
-        b'A' | b'O' => 512,
+        b'O' | b'T' => 512,
         b'B' | b'R' => buffers::ROOM,
         b'H' => 65535,
         b'L' => buffers::STORE,
@@ -32,7 +32,7 @@ fn limit(kind: u8) -> usize {
 // The command with one argument more, whose word begins at the place `at` of the line; no command where the word is not of its kind.
 pub(crate) fn with_argument(c: Command, kind: u8, word: &mut [u8], at: usize) -> Command {
     match kind {
-        b'A' | b'B' | b'O' => with_bytes(c, kind, word, at),
+        b'B' | b'O' | b'T' => with_bytes(c, kind, word, at),
         b'M' => c.with_number(master_id(word), 0xFFFFFFF),
         b'S' => with_salt(c, word),
         _ => c.with_number(number(word), limit(kind)),
@@ -41,7 +41,7 @@ pub(crate) fn with_argument(c: Command, kind: u8, word: &mut [u8], at: usize) ->
 
 // With the bytes of one argument more, or absent.
 fn with_bytes(mut c: Command, kind: u8, word: &mut [u8], at: usize) -> Command {
-    if kind == b'A' && is_byte(word, b'~') {
+    if kind == b'T' && is_byte(word, b'~') {
         c.is_absent = true;
         return c;
     }

@@ -96,8 +96,8 @@ force OON
 close OO
 save R
 load B
-fragment AMHHNB
-collect AMR
+fragment TMHHNB
+collect TMR
 sweep N";
     parse_by(forms, &mut line[0..n])
 }
