@@ -1,4 +1,4 @@
-// The commands that keep nothing but bytes: hashes and ids, and lines and datagrams, read, or read and written again.
+// The commands that keep nothing: hashes and ids, and lines and datagrams, read, or read and written again.
 use crate::buffers::ROOM;
 use crate::command::BAD;
 use crate::command::Command;

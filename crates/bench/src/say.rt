@@ -283,6 +283,6 @@ fn escape(b: u8) {
     let digits = b"0123456789ABCDEF";
     let high = (b / 16) as usize;
     let low = (b % 16) as usize;
-    let text = [b'%', digits[high], digits[low]];
-    io::write_all(STDOUT_FILENO, &text);
+    let escaped = [b'%', digits[high], digits[low]];
+    io::write_all(STDOUT_FILENO, &escaped);
 }

@@ -28,9 +28,9 @@ pub(crate) fn run(line: &mut [u8; LINE], memory: &mut [u8; MEMORY], replies: &mu
     while turns > 0 {
         let got = read_line(line);
         let c = forms::parse(line, got.len);
-        let text: &[u8] = line;
-        let a = part(text, c.a_at, c.a_len);
-        let b = part(text, c.b_at, c.b_len);
+        let decoded: &[u8] = line;
+        let a = part(decoded, c.a_at, c.a_len);
+        let b = part(decoded, c.b_at, c.b_len);
         session = sessions::obey(c, b, session, lent, memory, replies);
         table = stream_calls::obey(c, a, b, table);
         groups = fragment_calls::obey(c, a, b, groups, lent.store, memory);

@@ -19,7 +19,7 @@ use node::Session;
 use node::Step;
 use node::Stepping;
 
-// The mode that stands for no session: no call makes one of it.
+// The mode that stands for no session: one that no call answers.
 const NO_SESSION: u8 = 255;
 
 // No session yet: that of a refused opening, with its mode changed.

@@ -10,8 +10,8 @@ use lib.ListN.{length, drop, set, replicate}
 use lib.Seq.{sets, sets-eq}
 use Rattle.octets.specs.Words.{_and_, _≤?_}
 use Rattle.octets.specs.Field.{Res, bad, got, bind, Field, num, only, through, tagged, many, manyParse}
-use Rattle.octets.proofs.Tests.{if-no, true-not-false}
-use Rattle.octets.proofs.FieldLaws.{Laws, num-laws, many-laws, bound}
+use Rattle.octets.proofs.Tests.{if-no}
+use Rattle.octets.proofs.FieldLaws.{num-laws, bound}
 use Rattle.headers.specs.declared.Header.{Header}
 use Rattle.headers.specs.declared.Headers.{Headers}
 use Rattle.envelope.specs.declared.CallText.{CallText}
@@ -90,9 +90,6 @@ module _ {A S : Type 0} (F : Field A) (add : S → A → S) (start : S) (to : Li
   counted-short b e = (rw e, omega arith)
 
   module _ (k n : ℕ) (e : num w .parse s ≡ got k n) where
-    pub count-room : n ≤ length s
-    count-room = num-laws w .room s k n e
-
     pub counted-not : (b : S) → p k ≡ false → finding (Counted .parse s) s false b 0
     unfolding found
     counted-not b t = (rw (e, t), omega arith)

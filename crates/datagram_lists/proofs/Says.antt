@@ -1,7 +1,5 @@
--- The answers: what each says was found, and that it says no more.
-use mathlib.Core.Path.{_≡_, refl, ap}
-use mathlib.Core.Bool.{Bool, true}
-use Rattle.octets.specs.Field.{got}
+-- The answers: what each says was found.
+use mathlib.Core.Path.{refl}
 use Rattle.layout.specs.Layout.{Way}
 use Rattle.datagram_numbers.proofs.Answers.{Answers}
 use Rattle.datagram_lists.specs.Found.{wayFound, headersFound}

@@ -5,7 +5,6 @@ use layout::Flags;
 use layout::Hops;
 use octets::Read16;
 ghost use mathlib.Core.Path.{_≡_};
-ghost use Rattle.octets.specs.Field.{bad};
 ghost use Rattle.layout.specs.Layout.{way, headersIf};
 ghost use Rattle.datagram_lists.specs.Found.{wayFound, headersFound};
 

@@ -11,7 +11,7 @@ ghost use Rattle.layout.specs.Layout.{hopsIf};
 ghost use Rattle.datagram_numbers.specs.Found.{finding};
 ghost use Rattle.datagram_lists.specs.Found.{hopsFrom};
 
-// The array stands first, so that it is copied once less.
+// The array stands first: nothing lies between it and the answer's start, and it is copied less often.
 struct HopsFound {
     items: [CallText; 16],
     count: usize,
@@ -25,7 +25,7 @@ pub(crate) struct RouteFound {
     pub used: usize,
 }
 
-// k hops, of which the first has the place `at`: one hop, and the shorter list behind it. It stands in the array that the shorter list came in,
+// k hops, of which the first has the place `at`: one hop, and the shorter list behind it. The hop stands in the array that the shorter list came in,
 // so that no array is handed on.
 fn read_hops(d: &[u8], k: usize, at: usize) -> HopsFound
     requires { ⌜ at + k ≤ 16 ⌝ }

@@ -6,7 +6,7 @@ use octets::Read8;
 use octets::Read32;
 ghost use mathlib.Core.Path.{_≡_};
 ghost use Rattle.octets.specs.Words.{_and_};
-ghost use Rattle.octets.specs.Field.{bad, num};
+ghost use Rattle.octets.specs.Field.{num};
 ghost use Rattle.layout.specs.Layout.{floodIf, fragmentIf, opening};
 ghost use Rattle.datagram_numbers.specs.Found.{found8, found32, openingFound, fragmentFound};
 

@@ -6,7 +6,6 @@ use envelope::CallText;
 use envelope::StreamText;
 use octets::Read8;
 use octets::Read16;
-ghost use mathlib.Core.Path.{_≡_};
 ghost use Prim.Native.Nat.{_≤_};
 ghost use lib.ListN.{length};
 ghost use Rattle.layout.specs.Layout.{text, callIf, address, streamName, header};

@@ -12,7 +12,7 @@ aboveBy gap n = if gap then n else (n - 1)
 abbrev pub timedBy : ℕ → ℕ → Bool → Bool
 timedBy clock start gap = start ≤? clock and (gap or start =? 0)
 
--- at most sixteen are held; expected is 1 to 4294967296, and at most 15 are above it; the gap's start
+-- at most sixteen are held; expected is 1 to 4294967296, and at most 15 are above it; and the gap start is timed
 abbrev pub keepsNumbers : ℕ → ℕ → ℕ → ℕ → Bool → Bool
 keepsNumbers count expected clock start gap = count ≤? 16 and (between 1 4294967296 expected and aboveBy gap count ≤? 15) and timedBy clock start gap
 
@@ -26,14 +26,14 @@ refusesOffer keeps number expected held above =
     else if expected <? number and 15 ≤? above then rowFull
     else 0
 
--- the gap start after a message came or went: the clock where this opened the gap, kept where the gap stays open, and 0 where it is closed
+-- the gap start after an offer: the clock where this opened the gap, kept where the gap stays open, and 0 where it is closed
 abbrev pub startAfter : Bool → Bool → ℕ → ℕ → ℕ
 startAfter before after kept clock = if after then (if before then kept else clock) else 0
 
 -- a message is due if it is expected, or if its timeout is above 0 and clock minus gap start is at least that timeout
-abbrev pub dueNumber : ℕ → ℕ → ℕ → ℕ → ℕ → Bool
-dueNumber number timeout expected start clock = number =? expected or (0 <? timeout and timeout ≤? clock - start)
+abbrev pub isDue : ℕ → ℕ → ℕ → ℕ → ℕ → Bool
+isDue number timeout expected start clock = number =? expected or (0 <? timeout and timeout ≤? clock - start)
 
 -- something is held, and the lowest is due
 abbrev pub dueBy : ℕ → ℕ → ℕ → ℕ → ℕ → ℕ → Bool
-dueBy count number timeout expected start clock = 0 <? count and dueNumber number timeout expected start clock
+dueBy count number timeout expected start clock = 0 <? count and isDue number timeout expected start clock

@@ -80,7 +80,7 @@ pub fn later(clock: u32, time: u32) -> u32
     if clock < time { time } else { clock }
 }
 
-// The gap start after a call, by whether the gap was open before and is open after it.
+// The gap start after a call, by whether a gap that was open goes on (no gap goes on through a give) and whether one is open after it.
 pub fn start_after(before: bool, after: bool, kept: u32, clock: u32) -> u32
     ensures { λ r. ⌜ r ≡ startAfter before after kept clock ⌝ }
 {

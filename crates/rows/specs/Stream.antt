@@ -1,10 +1,10 @@
 -- Document 01, "Streams": a row as the paper has it, with the list of its held messages; the rules that it keeps, and its three calls.
 use Prim.Native.Nat.{ℕ, _+_, max}
-use mathlib.Core.Bool.{Bool, false}
+use mathlib.Core.Bool.{Bool}
 use mathlib.Core.List.{List, [], _∷_}
 use Rattle.octets.specs.Words.{if_then_else_, _and_, every, between, _<?_, _≤?_}
 use Rattle.refusals.specs.Numbers.{stale, alreadyHeld, rowFull}
-use Rattle.row_numbers.specs.Numbers.{timedBy, startAfter, dueNumber}
+use Rattle.row_numbers.specs.Numbers.{timedBy, startAfter, isDue}
 use Rattle.places.specs.declared.Held.{Held}
 pub use Rattle.places.specs.Messages.{word, words, ascending, above, holds, insert, gapOpen}
 use Rattle.rows.specs.Answer.{accepted, given, nothing, Outcome, refuse}
@@ -64,12 +64,12 @@ stay s clock = record { answer = nothing; after = record { expected = s .expecte
 abbrev pub give : Held → List Held → ℕ → Outcome Stream
 give m rest clock =
     let next = m .number + 1 in
-    let start = startAfter false (gapOpen next rest) 0 clock in
+    let start = if gapOpen next rest then clock else 0 in
     record { answer = given (m .number) (m .slip); after = record { expected = next; clock = clock; gapStart = start; held = rest } }
 
 -- the lowest held is due if it is expected, or if its timeout is above 0 and clock minus gap start is at least that timeout
 abbrev pub due : Stream → Held → ℕ → Bool
-due s m clock = dueNumber (m .number) (m .timeout) (s .expected) (s .gapStart) clock
+due s m clock = isDue (m .number) (m .timeout) (s .expected) (s .gapStart) clock
 
 abbrev pub takeFrom : Stream → ℕ → List Held → Outcome Stream
 takeFrom s clock [] = stay s clock
