@@ -102,19 +102,32 @@ pub all-blank : (n : ℕ) → every isBlank (replicate n blank) ≡ true
 all-blank zero = refl
 all-blank (suc n) = all-blank n
 
--- one place more is gathered
-pub blank-next : (g : ℕ) (l : List Held) (i : ℕ) → i < length l
-    → (g =? 0) and every isBlank (drop i l) ≡ (bitOr g (bitOr (bitOr (getD l i blank .number) (getD l i blank .timeout)) (getD l i blank .slip)) =? 0) and every isBlank (drop (i + 1) l)
-blank-next g l i h =
+-- one place more is gathered, each of its fields by itself
+pub blank-next : (a b c : ℕ) (l : List Held) (i : ℕ) → i < length l
+    → (bitOr (bitOr a b) c =? 0) and every isBlank (drop i l)
+    ≡ (bitOr (bitOr (bitOr a (getD l i blank .number)) (bitOr b (getD l i blank .timeout))) (bitOr c (getD l i blank .slip)) =? 0) and every isBlank (drop (i + 1) l)
+blank-next a b c l i h =
     let m = getD l i blank in
-    rw (drop-next l i blank h, or-zero g (bitOr (bitOr (m .number) (m .timeout)) (m .slip)), or-zero (bitOr (m .number) (m .timeout)) (m .slip), or-zero (m .number) (m .timeout))
-    (regroup (g =? 0) (m .number =? 0) (m .timeout =? 0) (m .slip =? 0) (every isBlank (drop (i + 1) l)))
+    rw (drop-next l i blank h, or-zero (bitOr (bitOr a (m .number)) (bitOr b (m .timeout))) (bitOr c (m .slip)), or-zero (bitOr a (m .number)) (bitOr b (m .timeout)), or-zero a (m .number), or-zero b (m .timeout), or-zero c (m .slip), or-zero (bitOr a b) c, or-zero a b)
+    (regroup (a =? 0) (b =? 0) (c =? 0) (m .number =? 0) (m .timeout =? 0) (m .slip =? 0) (every isBlank (drop (i + 1) l)))
   where
-    regroup : (a b c d e : Bool) → a and ((b and c and d) and e) ≡ (a and ((b and c) and d)) and e
-    regroup false b c d e = refl
-    regroup true false c d e = refl
-    regroup true true false d e = refl
-    regroup true true true d e = refl
+    regroup : (a b c x y z e : Bool) → ((a and b) and c) and ((x and y and z) and e) ≡ (((a and x) and (b and y)) and (c and z)) and e
+    regroup false b c x y z e = refl
+    regroup true b c false y z e = all-no b c
+      where
+        all-no : (b c : Bool) → (b and c) and false ≡ false
+        all-no false c = refl
+        all-no true false = refl
+        all-no true true = refl
+    regroup true false c true y z e = refl
+    regroup true true false true y z e = go y
+      where
+        go : (y : Bool) → false ≡ (y and false) and e
+        go false = refl
+        go true = refl
+    regroup true true true true false z e = refl
+    regroup true true true true true false e = refl
+    regroup true true true true true true e = refl
 
 pub blank-end : (g : ℕ) (l : List Held) (i : ℕ) → length l ≤ i → (g =? 0) and every isBlank (drop i l) ≡ (g =? 0)
 blank-end g l i h = rw (every-past isBlank l i h) (go (g =? 0))

@@ -1,11 +1,12 @@
 -- Searches in the slots: what a turn of each loop comes to, and where what was found stands.
-use mathlib.Core.Path.{_≡_, sym, ap, _∙_}
+use mathlib.Core.Path.{_≡_, refl, sym, ap, _∙_}
 use Prim.Native.Nat.{ℕ, suc, _+_, _≤_, _<_}
 use native.Mathlib.Omega.{arith}
 use mathlib.Core.Bool.{Bool, true, false}
 use mathlib.Core.List.{List, [], _∷_}
 use lib.ListN.{length, getD, drop, drop-of-length-le}
-use Rattle.octets.specs.Words.{if_then_else_}
+use borrow.Author.Tests.{ltb-true}
+use Rattle.octets.specs.Words.{if_then_else_, some, _<?_}
 use Rattle.octets.proofs.Tests.{if-yes, if-no, and-not-left, and-next, no-true, no-false}
 use Rattle.octets.proofs.Lists.{drop-next}
 use Rattle.keys.specs.declared.Key.{Key}
@@ -49,6 +50,39 @@ kept-free x b o e = e ∙ sym (if-no _ _ _ o)
 pub free-unlike : (k : Key) (x : Slot) → x .«is_open» ≡ false → hasKey k x ≡ false
 unfolding hasKey
 free-unlike k x o = and-not-left _ _ o
+
+-- ---- fewer than two open slots
+
+count-of : (x : Slot) (l : List Slot) (b : Bool) → x .«is_open» ≡ b → openCount (x ∷ l) ≡ (if b then 1 else 0) + openCount l
+count-of x l b o = ap (λ (b : Bool). (if b then 1 else 0) + openCount l) o
+
+-- where no slot is open, none has a key
+none-alike : (k : Key) (l : List Slot) → openCount l ≡ 0 → some (hasKey k) l ≡ false
+none-alike k [] e = refl
+none-alike k (x ∷ l) e = go (x .«is_open») refl (none-alike k l)
+  where
+    go : (b : Bool) → x .«is_open» ≡ b → (openCount l ≡ 0 → some (hasKey k) l ≡ false) → some (hasKey k) (x ∷ l) ≡ false
+    go true o r = let c = count-of x l true o in absurd (omega (arith, e, c))
+    go false o r = let c = count-of x l false o in rw (free-unlike k x o) (r (omega (arith, e, c)))
+
+-- their keys are distinct
+lone-distinct : (l : List Slot) → openCount l < 2 → distinct l ≡ true
+lone-distinct [] h = refl
+lone-distinct (x ∷ l) h = go (x .«is_open») refl (lone-distinct l)
+  where
+    go : (b : Bool) → x .«is_open» ≡ b → (openCount l < 2 → distinct l ≡ true) → distinct (x ∷ l) ≡ true
+    go true o r = let c = count-of x l true o in
+        and-next _ _ (no-false _ (and-next _ _ o ∙ none-alike (x .key) l (omega (arith, h, c)))) ∙ r (omega (arith, h, c))
+    go false o r = let c = count-of x l false o in and-next _ _ (no-false _ (and-not-left _ _ o)) ∙ r (omega (arith, h, c))
+
+-- from where pairs are compared on, the rest decides
+pub from-distinct : (l : List Slot) (n k : ℕ) → length l ≡ 32 → n ≡ openCount l → k ≡ (if n <? 2 then 32 else 0) → distinct l ≡ distinct (drop k l)
+from-distinct l n k h c q = go (n <? 2) refl
+  where
+    go : (b : Bool) → (n <? 2) ≡ b → distinct l ≡ distinct (drop k l)
+    go true e = let f = ltb-true n 2 e in
+        lone-distinct l (omega (arith, f, c)) ∙ ap distinct (sym (past l k (omega (arith, h, q ∙ if-yes _ _ _ e))))
+    go false e = ap (λ (i : ℕ). distinct (drop i l)) (sym (q ∙ if-no _ _ _ e))
 
 -- ---- what was found
 

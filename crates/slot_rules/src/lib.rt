@@ -1,7 +1,7 @@
 // Document 01, "Streams": the 32 slots of a table together: their rules (40), and what one pass over them finds.
 ghost use mathlib.Core.Path.{_≡_};
 ghost use Prim.Native.Nat.{_+_, _<_};
-ghost use Rattle.octets.specs.Words.{if_then_else_};
+ghost use Rattle.octets.specs.Words.{if_then_else_, _<?_};
 ghost use Rattle.slot_rules.specs.Slots.{testOf, broken};
 ghost use Rattle.slot_rules.specs.Steps.{unseen, seenAt};
 use keys::Key;
@@ -37,13 +37,12 @@ pub fn test(slots: [Slot; 32], key: Key) -> Ruled
         if !x.open_keeps_rules() {
             return broken();
         }
-        let own = x.key;
-        marks[i] = keys::mark(own);
+        marks[i] = keys::mark(x.key);
         r.found = seen(r.found, i, x.has_key(key));
         r.rows += 1;
         i += 1;
     }
-    let mut k: usize = 0;
+    let mut k = pairs_from(r.rows);
     while k < 32 {
         let mut j = behind(k, slots[k].is_open);
         while j < 32 {
@@ -95,6 +94,16 @@ fn seen(found: usize, i: usize, passes: bool) -> usize
         return i;
     }
     32
+}
+
+// Where the slots to compare begin: at the first, or past the last where fewer than two are open and no pair is there.
+fn pairs_from(rows: usize) -> usize
+    ensures { λ r. ⌜ r ≡ (if rows <? 2 then 32 else 0) ⌝ }
+{
+    if rows < 2 {
+        return 32;
+    }
+    0
 }
 
 // Where the slots to compare with slot k begin: behind it, or past the last where it is free.

@@ -5,6 +5,7 @@ use native.Mathlib.Omega.{arith}
 use borrow.Author.Needs.{needs}
 use borrow.Author.Tests.{eq-eqb, ne-eqb}
 use lib.ListN.{length, drop}
+use lib.Bits.{bitOr}
 use Rattle.octets.specs.Words.{_and_, every, _=?_}
 use Rattle.places.specs.Places.{isBlank}
 use Rattle.places.proofs.Packing.{blank-next, blank-end}
@@ -12,10 +13,10 @@ use Rattle.places.proofs.blank_from.Statement.{statement}
 use Rattle.places.proofs.blank_from.Tie as tie
 
 abbrev Inv-loop : tie.InvT-loop
-Inv-loop n held gathered₀ i₀ gathered i = (length held ≡ 16) × (every isBlank (drop n held) ≡ (gathered =? 0) and every isBlank (drop i held))
+Inv-loop n held numbers₀ timeouts₀ slips₀ i₀ numbers timeouts slips i = (length held ≡ 16) × (every isBlank (drop n held) ≡ (bitOr (bitOr numbers timeouts) slips =? 0) and every isBlank (drop i held))
 
 abbrev μ-loop : tie.MeasureT-loop
-μ-loop n held gathered₀ i₀ gathered i = 16 - i
+μ-loop n held numbers₀ timeouts₀ slips₀ i₀ numbers timeouts slips i = 16 - i
 
 loop-holds : tie.Need-loop-holds Inv-loop μ-loop
 loop-holds c = (search needs, refl)
@@ -24,19 +25,19 @@ loop-again : tie.Need-loop-again Inv-loop μ-loop
 loop-again c =
     let at-loop = c .before .loop in
     let at-args = c .before .before .args in
-    (at-loop .inv .0, at-loop .inv .1 ∙ blank-next (at-loop .gathered) (at-args .t1) (at-loop .i) (omega arith))
+    (at-loop .inv .0, at-loop .inv .1 ∙ blank-next (at-loop .numbers) (at-loop .timeouts) (at-loop .slips) (at-args .t1) (at-loop .i) (omega arith))
 
 returns : tie.Need-returns Inv-loop μ-loop
 returns c =
     let at-loop = c .before .before .loop in
     let at-args = c .before .before .before .args in
-    sym (at-loop .inv .1 ∙ blank-end (at-loop .gathered) (at-args .t1) (at-loop .i) (omega arith) ∙ ne-eqb _ _ (c .if1 .taken))
+    sym (at-loop .inv .1 ∙ blank-end (bitOr (bitOr (at-loop .numbers) (at-loop .timeouts)) (at-loop .slips)) (at-args .t1) (at-loop .i) (omega arith) ∙ ne-eqb _ _ (c .if1 .taken))
 
 returns-2 : tie.Need-returns-2 Inv-loop μ-loop
 returns-2 c =
     let at-loop = c .before .before .loop in
     let at-args = c .before .before .before .args in
-    sym (at-loop .inv .1 ∙ blank-end (at-loop .gathered) (at-args .t1) (at-loop .i) (omega arith) ∙ eq-eqb _ _ (c .if1 .left))
+    sym (at-loop .inv .1 ∙ blank-end (bitOr (bitOr (at-loop .numbers) (at-loop .timeouts)) (at-loop .slips)) (at-args .t1) (at-loop .i) (omega arith) ∙ eq-eqb _ _ (c .if1 .left))
 
 pub blank-from-spec : {M : Type 1} → statement M
 blank-from-spec =

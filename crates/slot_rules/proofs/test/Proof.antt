@@ -12,7 +12,7 @@ use Rattle.octets.proofs.Lists.{unmapped, every-next, every-not}
 use Rattle.slot_rules.specs.Slots.{keepsSlot, hasKey, isFree, twice, distinct, keepsSlots, openCount, slotIn, pastSlot}
 use Rattle.slot_rules.specs.declared.Ruled.{Ruled}
 use Rattle.slot_rules.specs.Steps.{Marked, Seen, seenAt}
-use Rattle.slot_rules.proofs.Search.{kept-open, kept-free, free-unlike, count-open, count-free, distinct-not, distinct-next, past}
+use Rattle.slot_rules.proofs.Search.{kept-open, kept-free, free-unlike, count-open, count-free, distinct-not, distinct-next, from-distinct, past}
 use Rattle.slot_rules.proofs.Marks.{marked-more, marked-free, marks-unlike, twice-from, twice-here, twice-next, twice-end}
 use Rattle.slot_rules.proofs.Pass.{seen-next, seen-skip, seen-end, test-broken, test-good}
 use Rattle.slot_rules.proofs.test.Statement.{statement}
@@ -81,11 +81,11 @@ returns-2 c =
 
 loop-again-2 : tie.Need-loop-again-2 Inv-loop μ-loop Inv-loop3 μ-loop3 Inv-loop2 μ-loop2
 loop-again-2 c =
-    let at-loop = c .before .before .before .before .before .before .before .before .before .before .loop in
-    let at-args = c .before .before .before .before .before .before .before .before .before .before .before .before .args in
-    let at-if1 = c .before .before .before .before .before .before .before .before .if1 in
-    let at-open-keeps-rules = c .before .before .before .before .before .before .open-keeps-rules in
-    let at-if3 = c .before .before .before .before .before .if3 in
+    let at-loop = c .before .before .before .before .before .before .before .before .before .loop in
+    let at-args = c .before .before .before .before .before .before .before .before .before .before .before .args in
+    let at-if1 = c .before .before .before .before .before .before .before .if1 in
+    let at-open-keeps-rules = c .before .before .before .before .before .open-keeps-rules in
+    let at-if3 = c .before .before .before .before .if3 in
     let at-mark = c .before .before .before .mark in
     let at-has-key = c .before .before .has-key in
     let v = at-loop .inv in
@@ -106,23 +106,23 @@ loop-again-2 c =
 
 loop2-holds : tie.Need-loop2-holds Inv-loop μ-loop Inv-loop3 μ-loop3 Inv-loop2 μ-loop2
 loop2-holds c =
-    let at-loop = c .before .loop in
-    let at-args = c .before .before .before .args in
+    let at-loop = c .before .before .loop in
+    let at-args = c .before .before .before .before .args in
     let e : at-loop .i ≡ 32 = omega (arith, at-loop .inv .2) in
-    (at-loop .inv .0, at-loop .inv .1, at-loop .inv .3 ∙ ap (every keepsSlot) (past (at-args .t1) (at-loop .i) (omega (arith, at-loop .inv .0))), λ n h. at-loop .inv .4 n (omega arith), refl)
+    (at-loop .inv .0, at-loop .inv .1, at-loop .inv .3 ∙ ap (every keepsSlot) (past (at-args .t1) (at-loop .i) (omega (arith, at-loop .inv .0))), λ n h. at-loop .inv .4 n (omega arith), from-distinct (at-args .t1) (at-loop .r .rows) _ (at-loop .inv .0) (omega (arith, at-loop .inv .8, ap openCount (past (at-args .t1) (at-loop .i) (omega (arith, at-loop .inv .0))))) (c .pairs-from .ensures))
 
 loop3-holds : tie.Need-loop3-holds Inv-loop μ-loop Inv-loop3 μ-loop3 Inv-loop2 μ-loop2
 loop3-holds c =
     let at-loop2 = c .before .before .loop2 in
-    let at-args = c .before .before .before .before .before .before .args in
+    let at-args = c .before .before .before .before .before .before .before .args in
     (at-loop2 .inv .0, at-loop2 .inv .1, at-loop2 .inv .2, at-loop2 .inv .3, at-loop2 .inv .4, search needs, twice-from (slotIn (at-args .t1) (at-loop2 .k)) (at-args .t1) (at-loop2 .k) _ (c .behind .ensures))
 
 loop3-again : tie.Need-loop3-again Inv-loop μ-loop Inv-loop3 μ-loop3 Inv-loop2 μ-loop2
 loop3-again c =
     let at-loop3 = c .before .before .loop3 in
-    let at-args = c .before .before .before .before .before .before .before .before .before .args in
+    let at-args = c .before .before .before .before .before .before .before .before .before .before .args in
     let at-loop2 = c .before .before .before .before .before .loop2 in
-    let at-loop = c .before .before .before .before .before .before .before .loop in
+    let at-loop = c .before .before .before .before .before .before .before .before .loop in
     let v = at-loop3 .inv in
     (v .0, v .1, v .2, v .3, v .4, v .5, v .6 ∙ twice-next (slotIn (at-args .t1) (at-loop2 .k)) (at-args .t1) (at-loop3 .j) (omega (arith, v .0)) (marks-unlike (at-args .t1) (at-loop .marks) (at-loop2 .k) (at-loop3 .j) (v .3) (v .5) (search needs) (c .if4 .taken)))
 
@@ -130,7 +130,7 @@ returns-3 : tie.Need-returns-3 Inv-loop μ-loop Inv-loop3 μ-loop3 Inv-loop2 μ-
 unfolding keepsSlots
 returns-3 c =
     let at-loop3 = c .before .before .before .before .before .before .before .loop3 in
-    let at-args = c .before .before .before .before .before .before .before .before .before .before .before .before .before .before .args in
+    let at-args = c .before .before .before .before .before .before .before .before .before .before .before .before .before .before .before .args in
     let at-loop2 = c .before .before .before .before .before .before .before .before .before .before .loop2 in
     let at-is-alike = c .before .before .is-alike in
     let v = at-loop3 .inv in
@@ -139,7 +139,7 @@ returns-3 c =
 loop3-again-2 : tie.Need-loop3-again-2 Inv-loop μ-loop Inv-loop3 μ-loop3 Inv-loop2 μ-loop2
 loop3-again-2 c =
     let at-loop3 = c .before .before .before .before .before .before .loop3 in
-    let at-args = c .before .before .before .before .before .before .before .before .before .before .before .before .before .args in
+    let at-args = c .before .before .before .before .before .before .before .before .before .before .before .before .before .before .args in
     let at-loop2 = c .before .before .before .before .before .before .before .before .before .loop2 in
     let v = at-loop3 .inv in
     (v .0, v .1, v .2, v .3, v .4, v .5, v .6 ∙ twice-next (slotIn (at-args .t1) (at-loop2 .k)) (at-args .t1) (at-loop3 .j) (omega (arith, v .0)) (sym (c .before .is-alike .ensures) ∙ c .if5 .left))
@@ -147,7 +147,7 @@ loop3-again-2 c =
 loop2-again : tie.Need-loop2-again Inv-loop μ-loop Inv-loop3 μ-loop3 Inv-loop2 μ-loop2
 loop2-again c =
     let at-loop3 = c .before .loop3 in
-    let at-args = c .before .before .before .before .before .before .before .before .args in
+    let at-args = c .before .before .before .before .before .before .before .before .before .args in
     let at-loop2 = c .before .before .before .before .loop2 in
     let v = at-loop3 .inv in
     (v .0, v .1, v .2, v .3, v .4 ∙ distinct-next (at-args .t1) (at-loop2 .k) pastSlot (omega (arith, v .0, v .5)) (v .6 ∙ ap (twice (slotIn (at-args .t1) (at-loop2 .k))) (past (at-args .t1) (at-loop3 .j) (omega (arith, v .0))) ∙ twice-end (slotIn (at-args .t1) (at-loop2 .k))))
@@ -156,8 +156,8 @@ returns-4 : tie.Need-returns-4 Inv-loop μ-loop Inv-loop3 μ-loop3 Inv-loop2 μ-
 unfolding keepsSlots
 returns-4 c =
     let at-loop2 = c .before .loop2 in
-    let at-loop = c .before .before .before .loop in
-    let at-args = c .before .before .before .before .before .args in
+    let at-loop = c .before .before .before .before .loop in
+    let at-args = c .before .before .before .before .before .before .args in
     let v = at-loop2 .inv in
     let w = at-loop .inv in
     let n : length (at-args .t1) ≤ at-loop .i = omega (arith, w .0) in
@@ -200,6 +200,7 @@ test-spec =
     (λ c. search needs)
     (λ c. search needs)
     loop-again-2
+    (λ c κs. search needs)
     loop2-holds
     (λ c. search needs)
     (λ c. search needs)
