@@ -168,7 +168,8 @@ impl Table {
             }
             Target::At(i) => i,
         };
-        if self.slots[i].row.count != 0 {
+        let x = self.slots[i];
+        if x.row.count != 0 {
             return Served {
                 table: self,
                 answer: Accepting::Refused(refusals::STILL_HOLDING),
