@@ -264,7 +264,7 @@ module _ (h : Between) (c : Lent) (k : Sound h) where
           let n = k .digest m in
           let t = completed (s .terms) (fedAll (s .hash) bs) in
           let o : O ≡ record { used = 0 + length bs; state = t .next; reply = t .reply; happened = t .happening } =
-          ap (run feed nothing 0 s) (sym (take-append-drop i (c .piece))) ∙ run-whole bs (drop i (c .piece)) 0 s m g (omega arith) in
+          ap (run feed nothing 0 s) (sym (take-append-drop i (c .piece))) ∙ run-whole bs (drop i (c .piece)) 0 s (fedAll (s .hash) bs) m g (omega arith) refl in
           let z : 0 + length bs ≡ i = omega arith in
           let f : fedAll (s .hash) bs ≡ fedAll (salted (s .terms)) (h .received ++ bs) = ap (λ (x : Sha1). fedAll x bs) (n .1) ∙ sym (parts (salted (s .terms)) (h .received) bs) in
           let w : length (h .received ++ bs) ≡ s .terms .len = length-append (h .received) bs ∙ omega arith in

@@ -1,10 +1,11 @@
 -- Parts that are placed one behind the other in a buffer.
 use mathlib.Core.Path.{_≡_, refl, sym, ap, _∙_, subst}
-use Prim.Native.Nat.{ℕ, _+_, _≤_, _<_}
+use Prim.Native.Nat.{ℕ, _+_, _-_, _≤_, _<_}
 use native.Mathlib.Omega.{arith}
 use mathlib.Core.Bool.{Bool, true, false}
 use mathlib.Core.List.{List, [], _∷_, _++_, append-assoc}
-use lib.ListN.{length, length-append}
+use lib.ListN.{length, drop, length-append, length-drop}
+use lib.Seq.{length-take-le}
 use borrow.Author.Tests.{le-leb, lt-leb}
 use Rattle.octets.specs.Words.{if_then_else_}
 use Rattle.octets.specs.Bytes.{fits, placed}
@@ -14,6 +15,7 @@ use Rattle.text.specs.Hex.{hexDigits}
 use Rattle.text.proofs.Numerals.{length-digits}
 use Rattle.replies.specs.declared.Reply.{Reply}
 use Rattle.replies.specs.Replies.{LF, 'error', errorToken, tokenGood, errs, replyText, wrote}
+use Rattle.replies.specs.Texts.{texts, part}
 
 -- three parts, all of which fit
 pub three : (a b c : List ℕ) (l l₁ l₂ l₃ : List ℕ) → length a + length b + length c ≤ length l
@@ -32,27 +34,41 @@ wrote-none w l h = (sym (if-no _ _ _ (lt-leb (0 + length w) (length l) (omega ar
 pub wrote-all : (w l : List ℕ) (n : ℕ) → n ≡ length w → length w ≤ length l → n ≡ wrote w l
 wrote-all w l n e h = e ∙ sym (if-yes _ _ _ (le-leb (0 + length w) (length l) (omega arith)))
 
-pub put-all : (w l : List ℕ) → fits w 0 l ≡ true → length w ≡ wrote w l
-put-all w l e = sym (if-yes _ _ _ e)
-
 pub put-none : (w l : List ℕ) → fits w 0 l ≡ false → 0 ≡ wrote w l
 put-none w l e = sym (if-no _ _ _ e)
 
--- a text, an id and a text
-module _ (h : List ℕ) (id : ℕ) (t : List ℕ) where
-  said-length : length (h ++ (hexDigits 7 id ++ t)) ≡ length h + 7 + length t
-  said-length = length-append h (hexDigits 7 id ++ t) ∙ ap (λ (n : ℕ). length h + n) (length-append (hexDigits 7 id) t) ∙ let z = length-digits 16 7 id in omega arith
+-- a part of the texts
+part-length : (from to : ℕ) → from ≤ to → to ≤ 66 → length (part from to) ≡ to - from
+part-length from to h k = length-take-le (to - from) (drop from texts) (omega (arith, length-drop from texts))
 
-  pub id-none : (l : List ℕ) → length l < length h + 7 + length t → (0 ≡ wrote (h ++ (hexDigits 7 id ++ t)) l) × (l ≡ placed (h ++ (hexDigits 7 id ++ t)) 0 l)
-  id-none l k = wrote-none (h ++ (hexDigits 7 id ++ t)) l (omega (arith, said-length))
+pub part-put : (from to : ℕ) (l : List ℕ) → from ≤ to → to ≤ 66 → fits (part from to) 0 l ≡ true → to - from ≡ wrote (part from to) l
+part-put from to l h k e = sym (part-length from to h k) ∙ sym (if-yes _ _ _ e)
 
-  pub id-all : (n : ℕ) (l l₁ l₂ l₃ : List ℕ) → n ≡ length h + 7 + length t → length h + 7 + length t ≤ length l
-      → l₁ ≡ placed h 0 l → l₂ ≡ placed (hexDigits 7 id) (length h) l₁ → l₃ ≡ placed t (length h + 7) l₂
-      → (n ≡ wrote (h ++ (hexDigits 7 id ++ t)) l) × (l₃ ≡ placed (h ++ (hexDigits 7 id ++ t)) 0 l)
-  id-all n l l₁ l₂ l₃ e k p q r =
-      let d = length-digits 16 7 id in
-      let z : length h + 7 ≡ length h + length (hexDigits 7 id) = omega arith in
-      (wrote-all (h ++ (hexDigits 7 id ++ t)) l n (e ∙ sym said-length) (omega (arith, said-length)), three h (hexDigits 7 id) t l l₁ l₂ l₃ (omega arith) p q (r ∙ ap (λ (i : ℕ). placed t i l₂) z))
+-- a part, an id and a part
+module _ (from to id tail end : ℕ) (b : (from ≤ to) × (to ≤ 66) × (tail ≤ end) × (end ≤ 66)) where
+  abbrev said : List ℕ
+  said = part from to ++ (hexDigits 7 id ++ part tail end)
+
+  said-length : length said ≡ to - from + 7 + (end - tail)
+  said-length =
+      let x = length-append (part from to) (hexDigits 7 id ++ part tail end) in
+      let y = length-append (hexDigits 7 id) (part tail end) in
+      let h = part-length from to (b .0) (b .1) in
+      let t = part-length tail end (b .2) (b .3) in
+      let z = length-digits 16 7 id in
+      omega (arith, x, y, h, t, z)
+
+  pub id-none : (l : List ℕ) → length l < to - from + 7 + (end - tail) → (0 ≡ wrote said l) × (l ≡ placed said 0 l)
+  id-none l k = wrote-none said l (omega (arith, said-length))
+
+  pub id-all : (l l₁ l₂ l₃ : List ℕ) → to - from + 7 + (end - tail) ≤ length l
+      → l₁ ≡ placed (part from to) 0 l → l₂ ≡ placed (hexDigits 7 id) (to - from) l₁ → l₃ ≡ placed (part tail end) (to - from + 7) l₂
+      → (to - from + 7 + (end - tail) ≡ wrote said l) × (l₃ ≡ placed said 0 l)
+  id-all l l₁ l₂ l₃ k p q r =
+      let h = part-length from to (b .0) (b .1) in
+      let t = part-length tail end (b .2) (b .3) in
+      let z : to - from + 7 ≡ length (part from to) + length (hexDigits 7 id) = omega (arith, h, length-digits 16 7 id) in
+      (wrote-all said l (to - from + 7 + (end - tail)) (sym said-length) (omega (arith, said-length)), three (part from to) (hexDigits 7 id) (part tail end) l l₁ l₂ l₃ (omega (arith, z, t, k)) p (q ∙ ap (λ (i : ℕ). placed (hexDigits 7 id) i l₁) (sym h)) (r ∙ ap (λ (i : ℕ). placed (part tail end) i l₂) z))
 
 -- `error ` and a token
 pub error-none : (t l : List ℕ) → tokenGood t ≡ true → length l < length t + 7 → (0 ≡ wrote (errs t) l) × (l ≡ placed (errs t) 0 l)

@@ -26,14 +26,14 @@ pub fn say(reply: Reply, s: &[u8], out: &mut [u8]) -> usize
 {
     match reply {
         Reply::Silence => 0,
-        Reply::Prompt => texts::put(b"DAPPSv1>\n", out),
-        Reply::Send(id) => texts::put_id(b"send ", id, b"\n", out),
-        Reply::Error => texts::put(b"error\n", out),
+        Reply::Prompt => texts::put(33, 42, out),
+        Reply::Send(id) => texts::put_id(0, 5, id, 24, 25, out),
+        Reply::Error => texts::put(19, 25, out),
         Reply::ErrorToken => texts::put_error(texts::token(s), out),
-        Reply::Ack(id) => texts::put_id(b"ack ", id, b"\nDAPPSv1>\n", out),
-        Reply::Bad(id) => texts::put_id(b"bad ", id, b"\nDAPPSv1>\n", out),
-        Reply::Bye => texts::put(b"bye\n", out),
-        Reply::Help => texts::put(b"This is DAPPS.\nDAPPSv1>\n", out),
-        Reply::Eh => texts::put(b"eh?\nDAPPSv1>\n", out),
+        Reply::Ack(id) => texts::put_id(5, 9, id, 32, 42, out),
+        Reply::Bad(id) => texts::put_id(9, 13, id, 32, 42, out),
+        Reply::Bye => texts::put(25, 29, out),
+        Reply::Help => texts::put(42, 66, out),
+        Reply::Eh => texts::put(29, 42, out),
     }
 }

@@ -1,38 +1,55 @@
 // Texts at the front of a lent buffer, each as a whole or not at all.
 ghost use mathlib.Core.Path.{_≡_};
 ghost use mathlib.Core.List.{_++_};
-ghost use Rattle.octets.specs.Bytes.{placed};
+ghost use Prim.Native.Nat.{_≤_};
+ghost use Rattle.octets.specs.Bytes.{fits, placed};
 ghost use Rattle.text.specs.Hex.{hexDigits};
 ghost use Rattle.replies.specs.Replies.{errorToken, tokenGood, errs, wrote};
+ghost use Rattle.replies.specs.Texts.{part};
 
-pub(crate) fn put(text: &[u8], out: &mut [u8]) -> usize
-    ensures { λ r. ⌜ (r ≡ wrote (now (text .entry)) (now (out .entry))) × (now (out .exit) ≡ placed (now (text .entry)) 0 (now (out .entry))) ⌝ }
+// A part of the texts of all replies, at a place. They stand one behind the other, so that the check of a reply meets numbers, not a literal for
+// each text: `send ` from 0, `ack ` 5, `bad ` 9, `error ` 13, `error` 19 with its LF at 24, `bye` 25, `eh?` 29 with its LF at 32, then the prompt 33; the
+// help text from 42 to 66, with the prompt.
+fn copy(from: usize, to: usize, out: &mut [u8], at: usize) -> bool
+    requires { ⌜ (from ≤ to) × (to ≤ 66) ⌝ }
+    ensures { λ r. ⌜ (r ≡ fits (part from to) at (now (out .entry))) × (now (out .exit) ≡ placed (part from to) at (now (out .entry))) ⌝ }
 {
-    if octets::copy_at(text, out, 0) {
-        return text.len();
+    let texts = *b"send ack bad error error\nbye\neh?\nDAPPSv1>\nThis is DAPPS.\nDAPPSv1>\n";
+    octets::copy_at(&texts[from..to], out, at)
+}
+
+// A part of the texts, alone.
+pub(crate) fn put(from: usize, to: usize, out: &mut [u8]) -> usize
+    requires { ⌜ (from ≤ to) × (to ≤ 66) ⌝ }
+    ensures { λ r. ⌜ (r ≡ wrote (part from to) (now (out .entry))) × (now (out .exit) ≡ placed (part from to) 0 (now (out .entry))) ⌝ }
+{
+    if copy(from, to, out, 0) {
+        return to - from;
     }
     0
 }
 
-// A text, an id, and a text.
-pub(crate) fn put_id(head: &[u8], id: u32, tail: &[u8], out: &mut [u8]) -> usize
-    ensures { λ r. ⌜ (r ≡ wrote (now (head .entry) ++ (hexDigits 7 id ++ now (tail .entry))) (now (out .entry))) × (now (out .exit) ≡ placed (now (head .entry) ++ (hexDigits 7 id ++ now (tail .entry))) 0 (now (out .entry))) ⌝ }
+// A part of the texts, an id, and a part.
+pub(crate) fn put_id(
+    from: usize,
+    to: usize,
+    id: u32,
+    tail: usize,
+    end: usize,
+    out: &mut [u8],
+) -> usize
+    requires { ⌜ (from ≤ to) × (to ≤ 66) × (tail ≤ end) × (end ≤ 66) ⌝ }
+    ensures { λ r. ⌜ (r ≡ wrote (part from to ++ (hexDigits 7 id ++ part tail end)) (now (out .entry))) × (now (out .exit) ≡ placed (part from to ++ (hexDigits 7 id ++ part tail end)) 0 (now (out .entry))) ⌝ }
 {
-    let h = head.len();
-    let t = tail.len();
-    if out.len() < h {
+    let h = to - from;
+    let n = h + 7 + (end - tail);
+    if out.len() < n {
         return 0;
     }
-    if out.len() - h < 7 {
-        return 0;
-    }
-    if out.len() - h - 7 < t {
-        return 0;
-    }
-    octets::copy_at(head, out, 0);
+    copy(from, to, out, 0);
     text::write_id(id, out, h);
-    octets::copy_at(tail, out, h + 7);
-    h + 7 + t
+    copy(tail, end, out, h + 7);
+    n
 }
 
 // `error T` for a token that is said again, else `error`.
@@ -40,15 +57,15 @@ pub(crate) fn put_error(t: &[u8], out: &mut [u8]) -> usize
     ensures { λ r. ⌜ (r ≡ wrote (errs (now (t .entry))) (now (out .entry))) × (now (out .exit) ≡ placed (errs (now (t .entry))) 0 (now (out .entry))) ⌝ }
 {
     if !is_token(t) {
-        return put(b"error\n", out);
+        return put(19, 25, out);
     }
     let n = t.len();
     if out.len() < n + 7 {
         return 0;
     }
-    octets::copy_at(b"error ", out, 0);
+    copy(13, 19, out, 0);
     octets::copy_at(t, out, 6);
-    octets::copy_at(b"\n", out, n + 6);
+    copy(24, 25, out, n + 6);
     n + 7
 }
 

@@ -11,12 +11,14 @@ use Rattle.octets.specs.Words.{if_then_else_, _=?_}
 use Rattle.octets.specs.Bytes.{placed}
 use Rattle.octets.proofs.Lists.{drop-next, placed-none, placed-next}
 use Rattle.tokens.specs.Cuts.{before}
+use Rattle.sha1.specs.declared.Sha1.{Sha1}
 use Rattle.sha1.specs.Machine.{fed, fedAll}
 use Rattle.machine.specs.Machine.{Fed, quiet, after, run}
 use Rattle.talk.specs.declared.Session.{Session}
 use Rattle.talk.specs.Answer.{Happening}
-use Rattle.talk.specs.Talk.{nothing, closing, completed}
+use Rattle.talk.specs.Talk.{Turn, nothing, closing, completed}
 use Rattle.session.specs.Feed.{turns, pushed, obeyed, taken, feed}
+use Rattle.session.specs.Runs.{outOf}
 
 -- ---- a byte of a line, by what it is
 
@@ -164,19 +166,20 @@ run-payload (b ∷ bs) k s m h =
     ∙ run-payload bs (k + 1) (taken s b) m (omega arith)
     ∙ (λ i. record { used = z i; state = received-more s b bs i; reply = []; happened = nothing })
 
--- bytes that complete it, whatever follows them
-pub run-whole : (bs rest : List ℕ) (k : ℕ) (s : Session) → s .mode ≡ 2 → s .got < s .terms .len → s .got + length bs ≡ s .terms .len
-    → let t = completed (s .terms) (fedAll (s .hash) bs) in
-    run feed nothing k s (bs ++ rest) ≡ record { used = k + length bs; state = t .next; reply = t .reply; happened = t .happening }
-run-whole [] rest k s m g h = absurd (omega arith)
-run-whole (b ∷ []) rest k s m g h =
-    let z : k + 1 ≡ k + suc 0 = omega arith in
-    let t = completed (s .terms) (fed (s .hash) b) in
-    ap (λ (x : Fed Session Happening). after x k (λ y. run feed nothing (k + 1) y rest)) (pay-last s b m (omega arith))
-    ∙ (λ i. record { used = z i; state = t .next; reply = t .reply; happened = t .happening })
-run-whole (b ∷ c ∷ bs) rest k s m g h =
-    let z : k + 1 + length (c ∷ bs) ≡ k + suc (length (c ∷ bs)) = omega arith in
-    let t = completed (s .terms) (fedAll (fed (s .hash) b) (c ∷ bs)) in
-    ap (λ (x : Fed Session Happening). after x k (λ y. run feed nothing (k + 1) y ((c ∷ bs) ++ rest))) (pay-more s b m (omega arith))
-    ∙ run-whole (c ∷ bs) rest (k + 1) (taken s b) m (omega arith) (omega arith)
-    ∙ (λ i. record { used = z i; state = t .next; reply = t .reply; happened = t .happening })
+-- bytes that complete it, whatever follows them: the last one, and one that others follow. Each has its own law, so that a run of them is checked in
+-- no time.
+module _ (k : ℕ) (s : Session) (b : ℕ) (rest : List ℕ) (m : s .mode ≡ 2) where
+  whole-last : (h : Sha1) → s .got + 1 ≡ s .terms .len → h ≡ fed (s .hash) b → run feed nothing k s (b ∷ rest) ≡ outOf (k + 1) (completed (s .terms) h)
+  whole-last h e d = ap (λ (x : Fed Session Happening). after x k (λ y. run feed nothing (k + 1) y rest)) (pay-last s b m (omega arith)) ∙ (λ i. outOf (k + 1) (completed (s .terms) (sym d i)))
+
+  whole-more : (n : ℕ) (t : Turn) → s .got + 1 < s .terms .len → run feed nothing (k + 1) (taken s b) rest ≡ outOf (k + 1 + n) t → run feed nothing k s (b ∷ rest) ≡ outOf (k + suc n) t
+  whole-more n t g r =
+      let z : k + 1 + n ≡ k + suc n = omega arith in
+      ap (λ (x : Fed Session Happening). after x k (λ y. run feed nothing (k + 1) y rest)) (pay-more s b m g) ∙ r ∙ (λ i. outOf (z i) t)
+
+pub run-whole : (bs rest : List ℕ) (k : ℕ) (s : Session) (h : Sha1) → s .mode ≡ 2 → s .got < s .terms .len → s .got + length bs ≡ s .terms .len → h ≡ fedAll (s .hash) bs
+    → run feed nothing k s (bs ++ rest) ≡ outOf (k + length bs) (completed (s .terms) h)
+run-whole [] rest k s h m g e d = absurd (omega arith)
+run-whole (b ∷ []) rest k s h m g e d = whole-last k s b rest m h e d
+run-whole (b ∷ c ∷ bs) rest k s h m g e d =
+    whole-more k s b ((c ∷ bs) ++ rest) m (length (c ∷ bs)) (completed (s .terms) h) (omega arith) (run-whole (c ∷ bs) rest (k + 1) (taken s b) h m (omega arith) (omega arith) d)

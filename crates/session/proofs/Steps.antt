@@ -1,5 +1,5 @@
 -- What the code takes in and says is what feeding the piece comes to.
-use mathlib.Core.Path.{_≡_, refl, sym, ap, _∙_}
+use mathlib.Core.Path.{_≡_, refl, sym, ap, _∙_, subst}
 use Prim.Native.Nat.{ℕ, _+_, _-_, _≤_, _<_}
 use native.Mathlib.Omega.{arith}
 use native.Mathlib.Decide.{decLe}
@@ -17,18 +17,19 @@ use Rattle.replies.specs.Replies.{wrote}
 use Rattle.replies.proofs.Joins.{silent}
 use Rattle.machine.specs.Machine.{Out, run}
 use Rattle.talk.specs.declared.Event.{Event}
+use Rattle.talk.specs.declared.Terms.{Terms}
 use Rattle.talk.specs.declared.Session.{Session}
 use Rattle.talk.specs.Answer.{Happening, Telling, happened}
 use Rattle.talk.specs.Sessions.{lineSoFar}
-use Rattle.talk.specs.Talk.{Turn, nothing, closing, completed, heard, dataHeard, lineHeard, toldIn}
+use Rattle.talk.specs.Talk.{Turn, nothing, closing, completed, heard, dataHeard, toldIn}
 use Rattle.session.specs.Answer as answer
 use Rattle.session.specs.Feed.{feed}
-use Rattle.session.specs.Runs.{silence, tellingOf, still, outOf, Spoken}
+use Rattle.session.specs.Runs.{silence, tellingOf, still, outOf, lineTurn, Spoken}
 use Rattle.session.proofs.Runs.{run-line, run-long, run-obey, run-end, before-within, before-stops, grown, received, run-payload, run-whole}
 
 -- ---- the records
 
-spoken-by : (o q : Out Session Happening) (r : answer.Record) (reply after : List ℕ) → o ≡ q → Spoken q r reply after → Spoken o r reply after
+pub spoken-by : (o q : Out Session Happening) (r : answer.Record) (reply after : List ℕ) → o ≡ q → Spoken q r reply after → Spoken o r reply after
 spoken-by o q r reply after e k = (
   k .0 ∙ ap {B = answer.Record} (λ (y : Out Session Happening). record { answer = answer.made; used = y .used; happening = y .happened; written = wrote (y .reply) reply; next = y .state }) (sym e),
   k .1 ∙ ap (λ (y : Out Session Happening). placed (y .reply) 0 reply) (sym e),
@@ -72,18 +73,23 @@ module _ (s : Session) (piece part line : List ℕ) (m : s .mode ≤ 1) (long : 
 
   -- an LF: the line is whole, between messages or after `send`
   module _ (h : s .«line_len» + length part ≤ 512) (e : length part ≡ length piece → ⊥) (text : List ℕ) (t : text ≡ lineSoFar held) where
-    whole : run feed nothing 0 s piece ≡ outOf (length part + 1) (lineHeard held text)
-    whole =
+    pub line-whole : run feed nothing 0 s piece ≡ outOf (length part + 1) (lineTurn (s .mode) (s .terms) text)
+    unfolding lineTurn
+    line-whole =
         let d : length part < length piece = omega (arith, within) in
         gathered h
         ∙ run-obey piece (length part) held d m (ap (λ (w : List ℕ). getD piece (length w) 0) p ∙ before-stops piece (omega (arith, ap length p)))
-        ∙ ap (λ (w : List ℕ). outOf (length part + 1) (lineHeard held w)) (sym t)
+        ∙ ap (λ (w : List ℕ). outOf (length part + 1) (lineTurn (s .mode) (s .terms) w)) (sym t)
 
-    pub line-first : s .mode ≡ 0 → run feed nothing 0 s piece ≡ outOf (length part + 1) (heard text)
-    line-first z = whole ∙ ap (outOf (length part + 1)) (if-yes _ _ _ (eq-eqb (s .mode) 0 z))
+-- a line that is whole leads to what the mode says
+module _ (mode : ℕ) (t : Terms) (text reply after : List ℕ) (x : Telling) where
+  pub line-first : mode ≡ 0 → (x ≡ toldIn (heard text) reply) × (after ≡ placed (heard text .reply) 0 reply) → (x ≡ toldIn (lineTurn mode t text) reply) × (after ≡ placed (lineTurn mode t text .reply) 0 reply)
+  unfolding lineTurn
+  line-first z k = subst (λ (y : Turn). (x ≡ toldIn y reply) × (after ≡ placed (y .reply) 0 reply)) (sym (if-yes _ _ _ (eq-eqb mode 0 z))) k
 
-    pub line-data : (s .mode ≡ 0 → ⊥) → run feed nothing 0 s piece ≡ outOf (length part + 1) (dataHeard (s .terms) text)
-    line-data z = whole ∙ ap (outOf (length part + 1)) (if-no _ _ _ (ne-eqb (s .mode) 0 z))
+  pub line-data : (mode ≡ 0 → ⊥) → (x ≡ toldIn (dataHeard t text) reply) × (after ≡ placed (dataHeard t text .reply) 0 reply) → (x ≡ toldIn (lineTurn mode t text) reply) × (after ≡ placed (lineTurn mode t text .reply) 0 reply)
+  unfolding lineTurn
+  line-data z k = subst (λ (y : Turn). (x ≡ toldIn y reply) × (after ≡ placed (y .reply) 0 reply)) (sym (if-no _ _ _ (ne-eqb mode 0 z))) k
 
 -- a 513th byte
 pub line-long : (s : Session) (piece part : List ℕ) → s .mode ≤ 1 → s .«line_len» ≤ 512 → part ≡ before 10 piece → 512 - s .«line_len» < length part
@@ -143,8 +149,7 @@ module _ (s : Session) (piece part pl pl₁ : List ℕ) (h : Sha1) (left : ℕ) 
     payload-whole =
         let z : 0 + length part ≡ length part = omega arith in
         ap (run feed nothing 0 s) (sym (take-append-drop left piece) ∙ ap (λ (w : List ℕ). w ++ drop left piece) (sym p))
-        ∙ run-whole part (drop left piece) 0 s m g (omega (arith, count))
-        ∙ ap (λ (x : Sha1). outOf (0 + length part) (completed (s .terms) x)) (sym d)
+        ∙ run-whole part (drop left piece) 0 s h m g (omega (arith, count)) d
         ∙ (λ i. outOf (z i) (completed (s .terms) h))
 
     pub whole-stored : pl₁ ≡ placed (take (run feed nothing 0 s piece .used) piece) (s .got) pl

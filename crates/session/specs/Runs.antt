@@ -2,16 +2,18 @@
 use mathlib.Core.Path.{_≡_}
 use Prim.Native.Nat.{ℕ}
 use mathlib.Core.List.{List, []}
+use Rattle.octets.specs.Words.{if_then_else_, _=?_}
 use Rattle.octets.specs.Bytes.{placed}
 use Rattle.line.specs.Reading.{blankLine}
 use Rattle.replies.specs.Replies.{wrote}
 use Rattle.machine.specs.Machine.{Out}
 use Rattle.talk.specs.declared.Event.{Event}
 use Rattle.talk.specs.declared.Said.{Said}
+use Rattle.talk.specs.declared.Terms.{Terms}
 use Rattle.talk.specs.declared.Session.{Session}
 use Rattle.talk.specs.Answer.{Happening, Telling, happened}
 use Rattle.talk.specs.Answer as talk
-use Rattle.talk.specs.Talk.{Turn, nothing}
+use Rattle.talk.specs.Talk.{Turn, nothing, heard, dataHeard}
 use Rattle.session.specs.Answer as answer
 
 -- the record of a step in which nothing was said, and of one in which it was
@@ -30,6 +32,10 @@ still s = record { reply = []; happening = nothing; next = s }
 
 abbrev pub outOf : ℕ → Turn → Out Session Happening
 outOf n t = record { used = n; state = t .next; reply = t .reply; happened = t .happening }
+
+-- what a line that is whole leads to, by the mode: between messages, or after `send`
+unfoldable pub lineTurn : ℕ → Terms → List ℕ → Turn
+lineTurn mode t text = if mode =? 0 then heard text else dataHeard t text
 
 -- what feeding a piece comes to was said: the step's record, and the reply buffer after it
 abbrev pub Spoken : Out Session Happening → answer.Record → List ℕ → List ℕ → Type 0

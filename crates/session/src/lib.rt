@@ -73,7 +73,7 @@ pub fn feed(s: Session, piece: &[u8], payload: &mut [u8], reply: &mut [u8]) -> S
         reply.len(),
     );
     if number > 0 {
-        return pieces::silent(Stepping::Refused(number), 0, Event::Nothing, s);
+        return pieces::silent(Stepping::Refused(number), 0, s);
     }
     if s.mode == 2 {
         return pieces::receive(s, piece, payload, reply);

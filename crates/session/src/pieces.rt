@@ -6,25 +6,46 @@ use talk::Ending;
 use talk::Event;
 use talk::Said;
 use talk::Session;
+use talk::Terms;
 ghost use mathlib.Core.Path.{_≡_};
 ghost use Prim.Native.Nat.{_≤_, _<_};
 ghost use lib.ListN.{take, replicate};
 ghost use Rattle.octets.specs.Bytes.{placed};
 ghost use Rattle.machine.specs.Machine.{run};
-ghost use Rattle.talk.specs.Talk.{nothing};
+ghost use Rattle.talk.specs.declared.Event.{Event};
+ghost use Rattle.talk.specs.Sessions.{closed};
+ghost use Rattle.talk.specs.Talk.{nothing, toldIn};
+ghost use Rattle.talk.specs.Answer as talk;
 ghost use Rattle.session.specs.Feed.{feed};
-ghost use Rattle.session.specs.Answer.{answering, says};
-ghost use Rattle.session.specs.Runs.{silence, telling, Spoken};
+ghost use Rattle.session.specs.Answer.{made, answering, says};
+ghost use Rattle.session.specs.Runs.{silence, telling, lineTurn, Spoken};
 
-// Nothing is said, and no line was offered.
-pub(crate) fn silent(stepping: Stepping, used: usize, event: Event, session: Session) -> Step
-    ensures { λ r. ⌜ says r ≡ silence (answering stepping) used event session ⌝ }
+// Nothing is said, and nothing happened.
+pub(crate) fn silent(stepping: Stepping, used: usize, session: Session) -> Step
+    ensures { λ r. ⌜ says r ≡ silence (answering stepping) used Event.Nothing session ⌝ }
 {
     let line = talk::no_line();
     Step {
         stepping,
         used,
-        event,
+        event: Event::Nothing,
+        written: 0,
+        line,
+        session,
+    }
+}
+
+// A 513th byte of a line closes the session, and nothing is said.
+fn too_long(used: usize) -> Step
+    ensures { λ r. ⌜ says r ≡ silence made used (Event.End (record { reason = 1 })) closed ⌝ }
+{
+    let ending = Ending { reason: 1 };
+    let line = talk::no_line();
+    let session = talk::closed();
+    Step {
+        stepping: Stepping::Went,
+        used,
+        event: Event::End(ending),
         written: 0,
         line,
         session,
@@ -48,6 +69,16 @@ fn told(used: usize, said: Said) -> Step
     }
 }
 
+// A line that is whole: between messages, or after `send`.
+fn hear(mode: u8, terms: Terms, text: &[u8], reply: &mut [u8]) -> Said
+    ensures { λ r. ⌜ (talk.says r ≡ toldIn (lineTurn mode terms (now (text .entry))) (now (reply .entry))) × (now (reply .exit) ≡ placed (lineTurn mode terms (now (text .entry)) .reply) 0 (now (reply .entry))) ⌝ }
+{
+    if mode == 0 {
+        return talk::hear_line(text, reply);
+    }
+    talk::hear_data(terms, text, reply)
+}
+
 // Bytes of a line: up to its LF, to a 513th, or to the piece's end.
 pub(crate) fn listen(mut s: Session, piece: &[u8], reply: &mut [u8]) -> Step
     requires { ⌜ (s .mode ≤ 1) × (s .«line_len» ≤ 512) ⌝ }
@@ -58,21 +89,17 @@ pub(crate) fn listen(mut s: Session, piece: &[u8], reply: &mut [u8]) -> Step
     let part = tokens::before_byte(piece, b'\n');
     let n = part.len();
     if room < n {
-        let ending = Ending { reason: 1 };
-        return silent(Stepping::Went, room + 1, Event::End(ending), talk::closed());
+        return too_long(room + 1);
     }
     let mut line = s.line;
     octets::copy_at(part, &mut line, before);
     if n == piece.len() {
         s.line = line;
         s.line_len = before + n;
-        return silent(Stepping::Went, n, Event::Nothing, s);
+        return silent(Stepping::Went, n, s);
     }
     let text = lengths::part(&line, before + n);
-    if s.mode == 0 {
-        return told(n + 1, talk::hear_line(text, reply));
-    }
-    told(n + 1, talk::hear_data(s.terms, text, reply))
+    told(n + 1, hear(s.mode, s.terms, text, reply))
 }
 
 // Bytes of a payload: to their places and into the digest, up to the last one or to the piece's end. While they come there is no line, so none is
@@ -100,5 +127,5 @@ pub(crate) fn receive(s: Session, piece: &[u8], payload: &mut [u8], reply: &mut 
         got: got + n,
         hash: next,
     };
-    silent(Stepping::Went, n, Event::Nothing, session)
+    silent(Stepping::Went, n, session)
 }

@@ -15,24 +15,24 @@ returns c =
 returns-2 : tie.Need-returns-2
 unfolding replyText
 returns-2 c =
-    let at-args = c .before .before .before .before .before .before .before .before .before .args in
-    let at-enum-told2 = c .before .before .before .before .before .enum-told2 in
+    let at-args = c .before .before .before .before .before .before .before .before .args in
+    let at-enum-told2 = c .before .before .before .before .enum-told2 in
     let at-put = c .before .before .put in
     says (at-args .reply) Reply.Prompt (at-args .s .now) _ (at-args .out .now) _ (at-enum-told2 .given .1) (at-put .ensures)
 
 returns-3 : tie.Need-returns-3
 unfolding replyText
 returns-3 c =
-    let at-args = c .before .before .before .before .before .before .before .before .before .before .before .args in
-    let at-reply = c .before .before .before .before .before .before .before .reply in
+    let at-args = c .before .before .before .before .before .before .before .before .before .args in
+    let at-reply = c .before .before .before .before .before .reply in
     let at-put-id = c .before .before .put-id in
     says (at-args .reply) (Reply.Send _) (at-args .s .now) _ (at-args .out .now) _ (at-reply .given .1) (at-put-id .ensures)
 
 returns-4 : tie.Need-returns-4
 unfolding replyText
 returns-4 c =
-    let at-args = c .before .before .before .before .before .before .before .before .before .args in
-    let at-enum-told3 = c .before .before .before .before .before .enum-told3 in
+    let at-args = c .before .before .before .before .before .before .before .before .args in
+    let at-enum-told3 = c .before .before .before .before .enum-told3 in
     let at-put2 = c .before .before .put2 in
     says (at-args .reply) Reply.Error (at-args .s .now) _ (at-args .out .now) _ (at-enum-told3 .given .1) (at-put2 .ensures)
 
@@ -48,40 +48,40 @@ returns-5 c =
 returns-6 : tie.Need-returns-6
 unfolding replyText
 returns-6 c =
-    let at-args = c .before .before .before .before .before .before .before .before .before .before .before .args in
-    let at-reply2 = c .before .before .before .before .before .before .before .reply2 in
+    let at-args = c .before .before .before .before .before .before .before .before .before .args in
+    let at-reply2 = c .before .before .before .before .before .reply2 in
     let at-put-id2 = c .before .before .put-id2 in
     says (at-args .reply) (Reply.Ack _) (at-args .s .now) _ (at-args .out .now) _ (at-reply2 .given .1) (at-put-id2 .ensures)
 
 returns-7 : tie.Need-returns-7
 unfolding replyText
 returns-7 c =
-    let at-args = c .before .before .before .before .before .before .before .before .before .before .before .args in
-    let at-reply3 = c .before .before .before .before .before .before .before .reply3 in
+    let at-args = c .before .before .before .before .before .before .before .before .before .args in
+    let at-reply3 = c .before .before .before .before .before .reply3 in
     let at-put-id3 = c .before .before .put-id3 in
     says (at-args .reply) (Reply.Bad _) (at-args .s .now) _ (at-args .out .now) _ (at-reply3 .given .1) (at-put-id3 .ensures)
 
 returns-8 : tie.Need-returns-8
 unfolding replyText
 returns-8 c =
-    let at-args = c .before .before .before .before .before .before .before .before .before .args in
-    let at-enum-told5 = c .before .before .before .before .before .enum-told5 in
+    let at-args = c .before .before .before .before .before .before .before .before .args in
+    let at-enum-told5 = c .before .before .before .before .enum-told5 in
     let at-put3 = c .before .before .put3 in
     says (at-args .reply) Reply.Bye (at-args .s .now) _ (at-args .out .now) _ (at-enum-told5 .given .1) (at-put3 .ensures)
 
 returns-9 : tie.Need-returns-9
 unfolding replyText
 returns-9 c =
-    let at-args = c .before .before .before .before .before .before .before .before .before .args in
-    let at-enum-told6 = c .before .before .before .before .before .enum-told6 in
+    let at-args = c .before .before .before .before .before .before .before .before .args in
+    let at-enum-told6 = c .before .before .before .before .enum-told6 in
     let at-put4 = c .before .before .put4 in
     says (at-args .reply) Reply.Help (at-args .s .now) _ (at-args .out .now) _ (at-enum-told6 .given .1) (at-put4 .ensures)
 
 returns-10 : tie.Need-returns-10
 unfolding replyText
 returns-10 c =
-    let at-args = c .before .before .before .before .before .before .before .before .before .args in
-    let at-enum-told7 = c .before .before .before .before .before .enum-told7 in
+    let at-args = c .before .before .before .before .before .before .before .before .args in
+    let at-enum-told7 = c .before .before .before .before .enum-told7 in
     let at-put5 = c .before .before .put5 in
     says (at-args .reply) Reply.Eh (at-args .s .now) _ (at-args .out .now) _ (at-enum-told7 .given .1) (at-put5 .ensures)
 
@@ -91,33 +91,22 @@ say-spec =
     (tie.spec
     (λ c. search needs)
     (λ c. search needs)
-    (λ c. search needs)
     (λ c κs. search needs)
     (λ c. search needs)
-    (λ c. search needs)
-    (λ c. search needs)
     (λ c κs. search needs)
-    (λ c. search needs)
     (λ c. search needs)
     (λ c κs. search needs)
     (λ c. search needs)
     (λ c κs. search needs)
     (λ c κs. search needs)
     (λ c. search needs)
-    (λ c. search needs)
+    (λ c κs. search needs)
     (λ c. search needs)
     (λ c κs. search needs)
     (λ c. search needs)
-    (λ c. search needs)
-    (λ c. search needs)
     (λ c κs. search needs)
     (λ c. search needs)
-    (λ c. search needs)
     (λ c κs. search needs)
-    (λ c. search needs)
-    (λ c. search needs)
-    (λ c κs. search needs)
-    (λ c. search needs)
     (λ c. search needs)
     (λ c κs. search needs)
     returns

@@ -8,9 +8,9 @@ use Rattle.replies.proofs.texts.put_error.Tie as tie
 
 returns : tie.Need-returns
 returns c =
-    let at-args = c .before .before .before .before .before .before .before .before .before .args in
-    let at-is-token = c .before .before .before .before .before .before .is-token in
-    let at-if1 = c .before .before .before .before .before .if1 in
+    let at-args = c .before .before .before .before .before .before .before .before .args in
+    let at-is-token = c .before .before .before .before .before .is-token in
+    let at-if1 = c .before .before .before .before .if1 in
     let at-put = c .before .before .put in
     error-plain (at-args .t .now) _ (at-args .out .now) _ (sym (at-is-token .ensures) ∙ not-true _ (at-if1 .taken)) (at-put .ensures)
 
@@ -22,29 +22,26 @@ returns-2 c =
 
 returns-3 : tie.Need-returns-3
 returns-3 c =
-    let at-args = c .before .before .before .before .before .before .before .before .before .before .before .before .before .before .before .before .before .before .before .args in
-    let at-is-token = c .before .before .before .before .before .before .before .before .before .before .before .before .before .before .before .before .is-token in
-    let at-if1 = c .before .before .before .before .before .before .before .before .before .before .before .before .before .before .before .if1 in
-    let at-copy-at = c .before .before .before .before .before .before .before .before .before .before .before .copy-at in
-    let at-copy-at2 = c .before .before .before .before .before .before .before .copy-at2 in
-    let at-copy-at3 = c .before .before .copy-at3 in
-    error-all (at-args .t .now) _ (at-args .out .now) _ _ _ (sym (at-is-token .ensures) ∙ not-false _ (at-if1 .left)) refl (search needs) (at-copy-at .ensures .1) (at-copy-at2 .ensures .1) (at-copy-at3 .ensures .1)
+    let at-args = c .before .before .before .before .before .before .before .before .before .before .before .before .before .before .before .before .before .args in
+    let at-is-token = c .before .before .before .before .before .before .before .before .before .before .before .before .before .before .is-token in
+    let at-if1 = c .before .before .before .before .before .before .before .before .before .before .before .before .before .if1 in
+    let at-copy = c .before .before .before .before .before .before .before .before .before .before .copy in
+    let at-copy-at = c .before .before .before .before .before .before .copy-at in
+    let at-copy2 = c .before .before .copy2 in
+    error-all (at-args .t .now) _ (at-args .out .now) _ _ _ (sym (at-is-token .ensures) ∙ not-false _ (at-if1 .left)) refl (search needs) (at-copy .ensures .1) (at-copy-at .ensures .1) (at-copy2 .ensures .1)
 
 pub put-error-spec : {M : Type 1} → statement M
 put-error-spec =
     tie.close
     (tie.spec
     (λ c κs. search needs)
-    (λ c. search needs)
     (λ c κs. search needs)
     (λ c. search needs)
     returns
     (λ c. search needs)
     returns-2
-    (λ c. search needs)
     (λ c κs. search needs)
     (λ c κs. search needs)
-    (λ c. search needs)
     (λ c. search needs)
     (λ c κs. search needs)
     (λ c. search needs)

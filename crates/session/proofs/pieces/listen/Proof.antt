@@ -7,9 +7,10 @@ use Rattle.machine.specs.Machine.{run}
 use Rattle.talk.specs.declared.Event.{Event}
 use Rattle.talk.specs.Answer as talk
 use Rattle.talk.specs.Sessions.{closed}
-use Rattle.talk.specs.Talk.{nothing, heard, dataHeard}
+use Rattle.talk.specs.Talk.{nothing}
 use Rattle.session.specs.Feed.{feed}
-use Rattle.session.proofs.Steps.{silent-as, told-as, line-quiet, line-first, line-data, line-long}
+use Rattle.session.specs.Runs.{lineTurn}
+use Rattle.session.proofs.Steps.{silent-as, told-as, line-quiet, line-whole, line-long}
 use Rattle.session.proofs.pieces.listen.Statement.{statement}
 use Rattle.session.proofs.pieces.listen.Tie as tie
 
@@ -18,10 +19,10 @@ long c = search needs
 
 returns : tie.Need-returns
 returns c =
-    let at-args = c .before .before .before .before .before .before .args in
-    let at-before-byte = c .before .before .before .before-byte in
-    let at-pre = c .before .before .before .before .before .before .pre in
-    silent-as (run feed nothing 0 (at-args .s) (at-args .piece .now)) _ (Event.End (record { reason = 1 })) _ closed _ (at-args .reply .now) (line-long (at-args .s) (at-args .piece .now) (at-before-byte .result .now) (at-pre .0) (at-pre .1) (at-before-byte .ensures) (search needs)) (c .before .closed .ensures) (c .silent .ensures)
+    let at-args = c .before .before .before .before .before .args in
+    let at-before-byte = c .before .before .before-byte in
+    let at-pre = c .before .before .before .before .before .pre in
+    silent-as (run feed nothing 0 (at-args .s) (at-args .piece .now)) _ (Event.End (record { reason = 1 })) _ closed _ (at-args .reply .now) (line-long (at-args .s) (at-args .piece .now) (at-before-byte .result .now) (at-pre .0) (at-pre .1) (at-before-byte .ensures) (search needs)) refl (c .too-long .ensures)
 
 returns-2 : tie.Need-returns-2
 returns-2 c =
@@ -30,35 +31,20 @@ returns-2 c =
     let at-pre = c .before .before .before .before .before .before .before .before .before .before .pre in
     let at-start = c .before .before .before .before .before .before .before .before .before .before in
     let at-copy-at = c .before .before .before .copy-at in
-    silent-as (run feed nothing 0 (at-args .s) (at-args .piece .now)) _ Event.Nothing _ _ _ (at-args .reply .now) (line-quiet (at-args .s) (at-args .piece .now) (at-before-byte .result .now) _ (at-pre .0) (long at-start) (at-before-byte .ensures) (at-copy-at .ensures .1) (search needs) (search needs)) refl (c .silent2 .ensures)
+    silent-as (run feed nothing 0 (at-args .s) (at-args .piece .now)) _ Event.Nothing _ _ _ (at-args .reply .now) (line-quiet (at-args .s) (at-args .piece .now) (at-before-byte .result .now) _ (at-pre .0) (long at-start) (at-before-byte .ensures) (at-copy-at .ensures .1) (search needs) (search needs)) refl (c .silent .ensures)
 
 returns-3 : tie.Need-returns-3
 returns-3 c =
-    let at-args = c .before .before .before .before .before .before .before .before .before .before .before .before .before .before .before .before .before .before .args in
-    let at-part = c .before .before .before .before .before .before .before .part in
-    let at-hear-line = c .before .before .before .hear-line in
-    let at-before-byte = c .before .before .before .before .before .before .before .before .before .before .before .before .before .before .before .before-byte in
-    let at-pre = c .before .before .before .before .before .before .before .before .before .before .before .before .before .before .before .before .before .before .pre in
-    let at-start = c .before .before .before .before .before .before .before .before .before .before .before .before .before .before .before .before .before .before in
-    let at-copy-at = c .before .before .before .before .before .before .before .before .before .before .before .copy-at in
-    let at-if1 = c .before .before .before .before .before .before .before .before .before .before .before .before .before .before .if1 in
-    let at-if2 = c .before .before .before .before .before .before .before .before .before .if2 in
-    let at-if3 = c .before .before .before .before .before .if3 in
-    told-as (run feed nothing 0 (at-args .s) (at-args .piece .now)) _ (heard (at-part .result .now)) (talk.says (at-hear-line .result)) _ (at-args .reply .now) _ (line-first (at-args .s) (at-args .piece .now) (at-before-byte .result .now) _ (at-pre .0) (long at-start) (at-before-byte .ensures) (at-copy-at .ensures .1) (omega (arith, at-if1 .left, at-pre .1)) (at-if2 .left) (at-part .result .now) (at-part .ensures) (at-if3 .taken)) (at-hear-line .ensures) (c .told .ensures)
-
-returns-4 : tie.Need-returns-4
-returns-4 c =
-    let at-args = c .before .before .before .before .before .before .before .before .before .before .before .before .before .before .before .before .before .before .args in
-    let at-part = c .before .before .before .before .before .before .before .part in
-    let at-hear-data = c .before .before .before .hear-data in
-    let at-before-byte = c .before .before .before .before .before .before .before .before .before .before .before .before .before .before .before .before-byte in
-    let at-pre = c .before .before .before .before .before .before .before .before .before .before .before .before .before .before .before .before .before .before .pre in
-    let at-start = c .before .before .before .before .before .before .before .before .before .before .before .before .before .before .before .before .before .before in
-    let at-copy-at = c .before .before .before .before .before .before .before .before .before .before .before .copy-at in
-    let at-if1 = c .before .before .before .before .before .before .before .before .before .before .before .before .before .before .if1 in
-    let at-if2 = c .before .before .before .before .before .before .before .before .before .if2 in
-    let at-if3 = c .before .before .before .before .before .if3 in
-    told-as (run feed nothing 0 (at-args .s) (at-args .piece .now)) _ (dataHeard (at-args .s .terms) (at-part .result .now)) (talk.says (at-hear-data .result)) _ (at-args .reply .now) _ (line-data (at-args .s) (at-args .piece .now) (at-before-byte .result .now) _ (at-pre .0) (long at-start) (at-before-byte .ensures) (at-copy-at .ensures .1) (omega (arith, at-if1 .left, at-pre .1)) (at-if2 .left) (at-part .result .now) (at-part .ensures) (at-if3 .left)) (at-hear-data .ensures) (c .told2 .ensures)
+    let at-args = c .before .before .before .before .before .before .before .before .before .before .before .before .before .before .before .before .args in
+    let at-part = c .before .before .before .before .before .part in
+    let at-hear = c .before .before .before .hear in
+    let at-before-byte = c .before .before .before .before .before .before .before .before .before .before .before .before .before .before-byte in
+    let at-pre = c .before .before .before .before .before .before .before .before .before .before .before .before .before .before .before .before .pre in
+    let at-start = c .before .before .before .before .before .before .before .before .before .before .before .before .before .before .before .before in
+    let at-copy-at = c .before .before .before .before .before .before .before .before .before .copy-at in
+    let at-if1 = c .before .before .before .before .before .before .before .before .before .before .before .before .if1 in
+    let at-if2 = c .before .before .before .before .before .before .before .if2 in
+    told-as (run feed nothing 0 (at-args .s) (at-args .piece .now)) _ (lineTurn (at-args .s .mode) (at-args .s .terms) (at-part .result .now)) (talk.says (at-hear .result)) _ (at-args .reply .now) _ (line-whole (at-args .s) (at-args .piece .now) (at-before-byte .result .now) _ (at-pre .0) (long at-start) (at-before-byte .ensures) (at-copy-at .ensures .1) (omega (arith, at-if1 .left, at-pre .1)) (at-if2 .left) (at-part .result .now) (at-part .ensures)) (at-hear .ensures) (c .told .ensures)
 
 pub listen-spec : {M : Type 1} → statement M
 listen-spec =
@@ -67,7 +53,6 @@ listen-spec =
     (λ c. search needs)
     (λ c κs. search needs)
     (λ c. search needs)
-    (λ c κs. search needs)
     (λ c κs. search needs)
     returns
     (λ c. search needs)
@@ -82,9 +67,4 @@ listen-spec =
     (λ c κs. search needs)
     (λ c κs. search needs)
     (λ c. search needs)
-    returns-3
-    (λ c. search needs)
-    (λ c κs. search needs)
-    (λ c κs. search needs)
-    (λ c. search needs)
-    returns-4)
+    returns-3)
