@@ -29,6 +29,10 @@ turns-start t none h e f = rw (sym (words-start t)) (walk-start (words t) none h
 pub turns-end : (t : List ℕ) (slots : List Place) (h : Headers) (at : ℕ) → Walked (words t) slots h at (wordsFrom at t) → length t < at → record { good = true; slots = slots; headers = h } ≡ placesOf t
 turns-end t slots h at r l = walk-end t slots h at (rw (words-end t at l) at r)
 
+-- the first n bytes of a word, said as a part of it
+pub front-part : (w : List ℕ) (n : ℕ) (x : List ℕ) → x ≡ take n w → x ≡ take (n - 0) (drop 0 w)
+front-part w n x e = let z : n ≡ n - 0 = omega arith in e ∙ ap (λ (i : ℕ). take i w) z
+
 lt-of : (x y : ℕ) → x ≤ y → (x ≡ y → ⊥) → x < y
 lt-of x y p d = omega arith
 

@@ -2,6 +2,8 @@
 // the reserved keys: the place of its value is kept there, and every other key is a header.
 use headers::Headers;
 ghost use mathlib.Core.Path.{_≡_};
+ghost use Prim.Native.Nat.{_-_, _≤_};
+ghost use lib.ListN.{length, take, drop};
 ghost use Rattle.line_places.specs.Places.{noPlace, placeAt, noPlaces, placesOf, valueAt};
 
 // Where the value of a key stands in the text, and whether the key is there at all.
@@ -51,6 +53,14 @@ fn malformed() -> Places
     }
 }
 
+// What stands behind the first n bytes.
+fn behind(s: &[u8], n: usize) -> &[u8]
+    requires { ⌜ n ≤ length (now s) ⌝ }
+    ensures { λ r. ⌜ now r ≡ take (length (now (s .entry)) - n) (drop n (now (s .entry))) ⌝ }
+{
+    &s[n..]
+}
+
 // The places of all values, where the rules of the words hold.
 pub fn read_places(t: &[u8]) -> Places
     ensures { λ r. ⌜ r ≡ placesOf (now (t .entry)) ⌝ }
@@ -60,16 +70,17 @@ pub fn read_places(t: &[u8]) -> Places
     let mut headers = held_texts::no_headers();
     let mut at = 0;
     while at <= t.len() {
-        let word = tokens::before_byte(&t[at..], b' ');
+        let word = tokens::before_byte(behind(t, at), b' ');
         let n = tokens::bytes_before(word, b'=');
         let chk = slots[names::CHK];
         if !line_words::may_stand(chk.given, n, word.len()) {
             return malformed();
         }
         let start = at + n + 1;
-        let value = &word[n + 1..];
+        let key = lengths::part(word, n);
+        let value = behind(word, n + 1);
         at = at + word.len() + 1;
-        let k = names::reserved_place(&word[0..n]);
+        let k = names::reserved_place(key);
         if k < 13 {
             let p = slots[k];
             if p.given {
@@ -82,7 +93,7 @@ pub fn read_places(t: &[u8]) -> Places
         if !line_words::header_fits(m, value.len()) {
             return malformed();
         }
-        headers.items[m] = envelope::header_text(&word[0..n], value);
+        headers.items[m] = envelope::header_text(key, value);
         headers.count = m + 1;
     }
     Places {
