@@ -58,6 +58,9 @@ module _ (m : Datagram) (p l : List ℕ) where
 
 -- ---- the head, as the code has it
 
+pub head-room : (w a b : List ℕ) (n : ℕ) → n ≡ length w → b ≡ front w a → n ≤ length b
+head-room w a b n e f = rw f (omega (arith, e, length-append w (drop (length w) a)))
+
 -- a message without a head is not valid; one with a head is, and this is its head
 pub no-head : (m : Datagram) (len n : ℕ) → n ≡ length (head.validHead m len) → n ≡ 0 → valid m ≡ false
 unfolding head.validHead headBytes
@@ -89,9 +92,10 @@ module _ (m : Datagram) (p : List ℕ) (n : ℕ) (v : valid m ≡ true) (e : n �
   whole-length = sym (ap length (head-payload m p)) ∙ omega (arith, length-append (headBytes m (length p)) p, ap length is-head)
 
   -- what the code lends of the head's array
-  pub head-part : (a b : List ℕ) → b ≡ front (head.validHead m (length p)) a → take n b ≡ headBytes m (length p)
+  pub head-part : (a b : List ℕ) → b ≡ front (head.validHead m (length p)) a → take (n - 0) (drop 0 b) ≡ headBytes m (length p)
   head-part a b f =
-      rw (e, f) (take-append-seam (head.validHead m (length p)) _) ∙ is-head
+      let z : n - 0 ≡ length (head.validHead m (length p)) = omega (arith, e) in
+      rw (z, f) (take-append-seam (head.validHead m (length p)) _) ∙ is-head
 
   -- the head at the front, and the payload behind it
   pub all-written : (l : List ℕ) {c x y : List ℕ} → length p ≤ 4096 → n + length p ≤ length l → c ≡ headBytes m (length p) → x ≡ placed c 0 l → y ≡ placed p n x

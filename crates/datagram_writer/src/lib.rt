@@ -1,22 +1,13 @@
 // Document 01, "The datagram": version 7, written.
 use layout::Datagram;
 ghost use mathlib.Core.Path.{_≡_};
-ghost use lib.ListN.{length, take};
-ghost use Rattle.octets.specs.Bytes.{placed};
+ghost use lib.ListN.{length};
 ghost use Rattle.datagram_writer.specs.Answer.{says, writeOf, writeLeft};
 
 // How many bytes were written, or the number of the paper's table.
 pub enum DatagramWriting {
     Written(usize),
     Refused(u8),
-}
-
-// The first n bytes of a head at the front, and the payload behind them.
-fn put_both(head: &[u8; 2109], n: usize, payload: &[u8], out: &mut [u8])
-    ensures { λ r. ⌜ now (out .exit) ≡ placed (now (payload .entry)) n (placed (take n (now (head .entry))) 0 (now (out .entry))) ⌝ }
-{
-    octets::copy_at(lengths::part(head, n), out, 0);
-    octets::copy_at(payload, out, n);
 }
 
 // Writes a message and its payload as a datagram at the front of a lent buffer. A message that the rules forbid, a payload that is too long,
@@ -36,6 +27,7 @@ pub fn write_datagram(m: Datagram, payload: &[u8], out: &mut [u8]) -> DatagramWr
     if out.len() < n + payload.len() {
         return DatagramWriting::Refused(refusals::BUFFER_TOO_SHORT);
     }
-    put_both(&head, n, payload, out);
+    octets::copy_at(&head[0..n], out, 0);
+    octets::copy_at(payload, out, n);
     DatagramWriting::Written(n + payload.len())
 }
