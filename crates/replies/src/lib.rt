@@ -26,14 +26,28 @@ pub fn say(reply: Reply, s: &[u8], out: &mut [u8]) -> usize
 {
     match reply {
         Reply::Silence => 0,
-        Reply::Prompt => texts::put(33, 42, out),
-        Reply::Send(id) => texts::put_id(0, 5, id, 24, 25, out),
-        Reply::Error => texts::put(19, 25, out),
+        Reply::Prompt => texts::put(texts::PROMPT, texts::HELP, out),
+        Reply::Send(id) => texts::put_id(
+            texts::SEND,
+            texts::ACK,
+            id,
+            texts::ERROR_LF,
+            texts::BYE,
+            out,
+        ),
+        Reply::Error => texts::put(texts::ERROR, texts::BYE, out),
         Reply::ErrorToken => texts::put_error(texts::token(s), out),
-        Reply::Ack(id) => texts::put_id(5, 9, id, 32, 42, out),
-        Reply::Bad(id) => texts::put_id(9, 13, id, 32, 42, out),
-        Reply::Bye => texts::put(25, 29, out),
-        Reply::Help => texts::put(42, 66, out),
-        Reply::Eh => texts::put(29, 42, out),
+        Reply::Ack(id) => texts::put_id(texts::ACK, texts::BAD, id, texts::EH_LF, texts::HELP, out),
+        Reply::Bad(id) => texts::put_id(
+            texts::BAD,
+            texts::ERROR_AND_TOKEN,
+            id,
+            texts::EH_LF,
+            texts::HELP,
+            out,
+        ),
+        Reply::Bye => texts::put(texts::BYE, texts::EH, out),
+        Reply::Help => texts::put(texts::HELP, texts::END, out),
+        Reply::Eh => texts::put(texts::EH, texts::HELP, out),
     }
 }

@@ -7,9 +7,33 @@ ghost use Rattle.text.specs.Hex.{hexDigits};
 ghost use Rattle.replies.specs.Replies.{errorToken, tokenGood, errs, wrote};
 ghost use Rattle.replies.specs.Texts.{part};
 
-// A part of the texts of all replies, at a place. They stand one behind the other, so that the check of a reply meets numbers, not a literal for
-// each text: `send ` from 0, `ack ` 5, `bad ` 9, `error ` 13, `error` 19 with its LF at 24, `bye` 25, `eh?` 29 with its LF at 32, then the prompt 33; the
-// help text from 42 to 66, with the prompt.
+// The texts of all replies stand one behind the other, so that the check of a reply meets numbers, not a literal for each text.
+// These are the places where they begin, each where the one before it ends; the LFs of `error` and of `eh?` have names of their own.
+pub(crate) const SEND: usize = 0;
+
+pub(crate) const ACK: usize = 5;
+
+pub(crate) const BAD: usize = 9;
+
+pub(crate) const ERROR_AND_TOKEN: usize = 13;
+
+pub(crate) const ERROR: usize = 19;
+
+pub(crate) const ERROR_LF: usize = 24;
+
+pub(crate) const BYE: usize = 25;
+
+pub(crate) const EH: usize = 29;
+
+pub(crate) const EH_LF: usize = 32;
+
+pub(crate) const PROMPT: usize = 33;
+
+pub(crate) const HELP: usize = 42;
+
+pub(crate) const END: usize = 66;
+
+// The texts from one place up to another, at a place of the buffer.
 fn copy(from: usize, to: usize, out: &mut [u8], at: usize) -> bool
     requires { ⌜ (from ≤ to) × (to ≤ 66) ⌝ }
     ensures { λ r. ⌜ (r ≡ fits (part from to) at (now (out .entry))) × (now (out .exit) ≡ placed (part from to) at (now (out .entry))) ⌝ }
@@ -18,7 +42,7 @@ fn copy(from: usize, to: usize, out: &mut [u8], at: usize) -> bool
     octets::copy_at(&texts[from..to], out, at)
 }
 
-// A part of the texts, alone.
+// The texts from one place up to another, alone.
 pub(crate) fn put(from: usize, to: usize, out: &mut [u8]) -> usize
     requires { ⌜ (from ≤ to) × (to ≤ 66) ⌝ }
     ensures { λ r. ⌜ (r ≡ wrote (part from to) (now (out .entry))) × (now (out .exit) ≡ placed (part from to) 0 (now (out .entry))) ⌝ }
@@ -29,7 +53,7 @@ pub(crate) fn put(from: usize, to: usize, out: &mut [u8]) -> usize
     0
 }
 
-// A part of the texts, an id, and a part.
+// Texts, an id, and the texts from `tail` up to `end`.
 pub(crate) fn put_id(
     from: usize,
     to: usize,
@@ -57,15 +81,15 @@ pub(crate) fn put_error(t: &[u8], out: &mut [u8]) -> usize
     ensures { λ r. ⌜ (r ≡ wrote (errs (now (t .entry))) (now (out .entry))) × (now (out .exit) ≡ placed (errs (now (t .entry))) 0 (now (out .entry))) ⌝ }
 {
     if !is_token(t) {
-        return put(19, 25, out);
+        return put(ERROR, BYE, out);
     }
     let n = t.len();
     if out.len() < n + 7 {
         return 0;
     }
-    copy(13, 19, out, 0);
+    copy(ERROR_AND_TOKEN, ERROR, out, 0);
     octets::copy_at(t, out, 6);
-    copy(24, 25, out, n + 6);
+    copy(ERROR_LF, BYE, out, n + 6);
     n + 7
 }
 
