@@ -104,6 +104,11 @@ spells-end s w i h k = rw (drop-of-length-le s {i = i} (omega arith), drop-of-le
 
 -- ---- the kind
 
+-- the last word of a row
+pub or-false : (a : Bool) → a or false ≡ a
+or-false true = refl
+or-false false = refl
+
 module _ (s : List ℕ) (i : verb ihave s ≡ false) (d : verb data-word s ≡ false) where
   pub leaving-is : some (spells s) leaving ≡ true → kindOf s ≡ Kind.Leave
   unfolding kindOf

@@ -23,22 +23,10 @@ pub fn kind_of(s: &[u8]) -> Kind
     if lines::is_verb(s, b"data") {
         return Kind::Data;
     }
-    if lines::is_word(s, b"quit") {
+    if lines::leaves(s) {
         return Kind::Leave;
     }
-    if lines::is_word(s, b"q") {
-        return Kind::Leave;
-    }
-    if lines::is_word(s, b"bye") {
-        return Kind::Leave;
-    }
-    if lines::is_word(s, b"exit") {
-        return Kind::Leave;
-    }
-    if lines::is_word(s, b"help") {
-        return Kind::Ask;
-    }
-    if lines::is_word(s, b"info") {
+    if lines::asks(s) {
         return Kind::Ask;
     }
     Kind::Other

@@ -1,6 +1,7 @@
 // The words that begin a line, or that a line is.
 ghost use mathlib.Core.Path.{_≡_};
-ghost use Rattle.phrases.specs.Lines.{verb, lower, spells};
+ghost use Rattle.octets.specs.Words.{some};
+ghost use Rattle.phrases.specs.Lines.{verb, lower, spells, leaving, asking};
 
 // Whether a line is that word, or begins with it and a space.
 pub(crate) fn is_verb(s: &[u8], word: &[u8]) -> bool
@@ -32,7 +33,7 @@ fn lowered(x: u8) -> u8
 }
 
 // Whether a line is that word in any letter case.
-pub(crate) fn is_word(s: &[u8], word: &[u8]) -> bool
+fn is_word(s: &[u8], word: &[u8]) -> bool
     ensures { λ r. ⌜ r ≡ spells (now (s .entry)) (now (word .entry)) ⌝ }
 {
     if s.len() != word.len() {
@@ -46,4 +47,30 @@ pub(crate) fn is_word(s: &[u8], word: &[u8]) -> bool
         i += 1;
     }
     true
+}
+
+// A wish to leave.
+pub(crate) fn leaves(s: &[u8]) -> bool
+    ensures { λ r. ⌜ r ≡ some (spells (now (s .entry))) leaving ⌝ }
+{
+    if is_word(s, b"quit") {
+        return true;
+    }
+    if is_word(s, b"q") {
+        return true;
+    }
+    if is_word(s, b"bye") {
+        return true;
+    }
+    is_word(s, b"exit")
+}
+
+// A question.
+pub(crate) fn asks(s: &[u8]) -> bool
+    ensures { λ r. ⌜ r ≡ some (spells (now (s .entry))) asking ⌝ }
+{
+    if is_word(s, b"help") {
+        return true;
+    }
+    is_word(s, b"info")
 }
