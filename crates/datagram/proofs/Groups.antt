@@ -1,6 +1,6 @@
 -- The groups of fields before the payload length, one after the other, and the rules tested on them: what they come to together.
 use Prim.Native.Nat.{ℕ, _+_, _≤_}
-use mathlib.Core.Path.{_≡_, refl, ap, sym, subst}
+use mathlib.Core.Path.{_≡_, refl, ap}
 use mathlib.Core.Bool.{Bool}
 use mathlib.Core.List.{List}
 use lib.ListN.{length}
@@ -42,11 +42,6 @@ messageWith f o e w = record {
   hops = w .hops;
 }
 
--- all groups are there and both rules hold, from the tests one by one
-pub all-hold : (a b c d x y : Bool) (cd bcd there rules whole r : Bool) → cd ≡ c and d → bcd ≡ b and cd → there ≡ a and bcd → rules ≡ x and y → whole ≡ there and rules → r ≡ whole
-    → r ≡ (a and (b and (c and d))) and (x and y)
-all-hold a b c d x y cd bcd there rules whole r e₁ e₂ e₃ e₄ e₅ e₆ = rw (e₆, e₅, e₄, e₃, e₂, e₁)
-
 module _ (s : List ℕ) (o : OpeningFound) (eo : o ≡ openingFound (opening .parse s)) where
   opening-in : finding (opening .parse s) s (o .ok) (openingIn o) (o .used)
   opening-in = said says-opening opening opening-laws s o eo
@@ -73,19 +68,12 @@ module _ (s : List ℕ) (o : OpeningFound) (eo : o ≡ openingFound (opening .pa
         pub fields-room : (w .used + p .used ≤ length s) × (e .used + (w .used + p .used) ≤ length s) × (o .used + (e .used + (w .used + p .used)) ≤ length s)
         fields-room = room-four (o .used) (e .used) (w .used) (p .used) s opening-room ends-room way-room (ep .1)
 
-        fields-valid : (f : Envelope) (shared own : Bool) → f ≡ sharedFrom o e p → shared ≡ envelope f
+        pub fields-found : (f : Envelope) (shared own : Bool) → f ≡ sharedFrom o e p → shared ≡ envelope f
             → own ≡ ifSet (o .flags .link) (callIn (e .link)) and (ifSet (o .flags .route) (hopsIn (w .route)) and ifSet (o .flags .hops) (hopsIn (w .hops)))
             → finding (message .parse s) s ((o .ok and (e .ok and (w .ok and p .ok))) and (shared and own)) (messageWith f o e w) (o .used + (e .used + (w .used + p .used)))
         unfolding message layout valid
-        fields-valid f shared own ef es eown =
+        fields-found f shared own ef es eown =
             rw (es, eown) (found-only valid layout s (o .ok and (e .ok and (w .ok and p .ok))) (messageWith f o e w) (o .used + (e .used + (w .used + p .used)))
             (found-as messageOf (parts .parse s) s (o .ok and (e .ok and (w .ok and p .ok))) (openingIn o, (endsIn e, (wayIn w, optionsIn p))) (messageWith f o e w) (o .used + (e .used + (w .used + p .used)))
             (four-found opening (λ q. ends (q .0)) (λ q. way (q .0)) (λ q. options (q .0)) s (o .ok) (e .ok) (w .ok) (p .ok) (openingIn o) (endsIn e) (wayIn w) (optionsIn p) (o .used) (e .used) (w .used) (p .used) opening-in ends-in way-in ep)
             (ap (λ (q : Envelope). messageWith q o e w) ef)))
-
-        -- with the outcome as the code works it out
-        pub fields-found : (f : Envelope) (shared own ok : Bool) → f ≡ sharedFrom o e p → shared ≡ envelope f
-            → own ≡ ifSet (o .flags .link) (callIn (e .link)) and (ifSet (o .flags .route) (hopsIn (w .route)) and ifSet (o .flags .hops) (hopsIn (w .hops)))
-            → ok ≡ (o .ok and (e .ok and (w .ok and p .ok))) and (shared and own) → finding (message .parse s) s ok (messageWith f o e w) (o .used + (e .used + (w .used + p .used)))
-        fields-found f shared own ok ef es eown k =
-            subst (λ (b : Bool). finding (message .parse s) s b (messageWith f o e w) (o .used + (e .used + (w .used + p .used)))) (sym k) (fields-valid f shared own ef es eown)

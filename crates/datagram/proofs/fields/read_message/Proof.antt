@@ -1,7 +1,7 @@
 -- The four groups, each from the part behind the last, and the rules.
 use native.Mathlib.Omega.{arith}
 use borrow.Author.Needs.{needs}
-use Rattle.datagram.proofs.Groups.{all-hold, opening-room, ends-room, way-room, fields-room, fields-found}
+use Rattle.datagram.proofs.Groups.{opening-room, ends-room, way-room, fields-room, fields-found}
 use Rattle.datagram.proofs.fields.read_message.Statement.{statement}
 use Rattle.datagram.proofs.fields.read_message.Tie as tie
 
@@ -75,6 +75,11 @@ add-t32 c =
 
 returns : tie.Need-returns
 returns c =
+    let at-both5 = c .before .before .both5 in
+    let at-both4 = c .before .before .before .both4 in
+    let at-both3 = c .before .before .before .before .before .before .before .before .before .before .both3 in
+    let at-both2 = c .before .before .before .before .before .before .before .before .before .before .before .both2 in
+    let at-both = c .before .before .before .before .before .before .before .before .before .before .before .before .both in
     let at-args = c .before .before .before .before .before .before .before .before .before .before .before .before .before .before .before .before .before .before .before .before .before .before .args in
     let at-read-opening = c .before .before .before .before .before .before .before .before .before .before .before .before .before .before .before .before .before .before .before .before .read-opening in
     let at-read-ends = c .before .before .before .before .before .before .before .before .before .before .before .before .before .before .before .before .before .read-ends in
@@ -83,12 +88,7 @@ returns c =
     let at-put-together = c .before .before .before .before .before .before .before .before .before .put-together in
     let at-is-valid = c .before .before .before .before .before .is-valid in
     let at-own-rules = c .before .before .before .before .own-rules in
-    let at-both = c .before .before .before .before .before .before .before .before .before .before .before .before .both in
-    let at-both2 = c .before .before .before .before .before .before .before .before .before .before .before .both2 in
-    let at-both3 = c .before .before .before .before .before .before .before .before .before .before .both3 in
-    let at-both4 = c .before .before .before .both4 in
-    let at-both5 = c .before .before .both5 in
-    fields-found (at-args .d .now) (at-read-opening .result) (at-read-opening .ensures) (at-read-ends .result) (at-read-ends .ensures) (at-read-way .result) (at-read-way .ensures) (at-read-options .result) (at-read-options .ensures) (at-put-together .result) (at-is-valid .result) (at-own-rules .result) _ (at-put-together .ensures) (at-is-valid .ensures) (at-own-rules .ensures) (all-hold (at-read-opening .result .ok) (at-read-ends .result .ok) (at-read-way .result .ok) (at-read-options .result .ok) (at-is-valid .result) (at-own-rules .result) _ _ _ _ _ _ (at-both .ensures) (at-both2 .ensures) (at-both3 .ensures) (at-both4 .ensures) (at-both5 .ensures) (c .before .reading-of .ensures))
+    rw (c .before .reading-of .ensures, at-both5 .ensures, at-both4 .ensures, at-both3 .ensures, at-both2 .ensures, at-both .ensures) (fields-found (at-args .d .now) (at-read-opening .result) (at-read-opening .ensures) (at-read-ends .result) (at-read-ends .ensures) (at-read-way .result) (at-read-way .ensures) (at-read-options .result) (at-read-options .ensures) (at-put-together .result) (at-is-valid .result) (at-own-rules .result) (at-put-together .ensures) (at-is-valid .ensures) (at-own-rules .ensures))
 
 pub read-message-spec : {M : Type 1} → statement M
 read-message-spec =
