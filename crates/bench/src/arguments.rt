@@ -5,6 +5,7 @@ use crate::buffers;
 use crate::command::Command;
 use crate::command::is_byte;
 use crate::command::part;
+use crate::forms::end_of;
 use crate::say::is_plain;
 use text::Id;
 use text::Number;
@@ -131,23 +132,12 @@ fn spelled(word: &[u8], at: usize) -> Spelling
     }
 }
 
-// What a digit of `0-9A-F` is worth; 16 for a byte that is none.
+// What a digit of `0-9A-F` is worth, which is its place among them; 16 for a byte that is none.
 fn digit(b: u8) -> usize
     ensures { λ r. ⌜ r ≤ 16 ⌝ }
 {
-    if b < b'0' {
-        return 16;
-    }
-    if b <= b'9' {
-        return (b - b'0') as usize;
-    }
-    if b < b'A' {
-        return 16;
-    }
-    if b > b'F' {
-        return 16;
-    }
-    (b - b'A') as usize + 10
+    let digits = b"0123456789ABCDEF";
+    end_of(digits, 0, b)
 }
 
 // The number of bytes that a word stands for, which are written over its front: `-` is no bytes.

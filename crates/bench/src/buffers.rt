@@ -71,18 +71,14 @@ fn fill_all(s: &mut [u8], b: u8) {
     }
 }
 
-// The `len` bytes from the place `at` on, of the buffer that is the part of a memory from `from` on with `size` bytes.
+// The `len` bytes from the place `at` on, of the buffer that is the part of a memory from `from` on with `size` bytes. The place is within the
+// buffer by the command's form.
 fn peek(memory: &[u8], from: usize, size: usize, at: u32, len: u32) {
-    let buffer = part(memory, from, size);
-    let first = at as usize;
     let n = len as usize;
-    if first > buffer.len() {
+    let bytes = part(part(memory, from, size), at as usize, n);
+    if bytes.len() < n {
         say(say::BAD_COMMAND);
         return;
     }
-    if buffer.len() - first < n {
-        say(say::BAD_COMMAND);
-        return;
-    }
-    say_bytes(say::BYTES, &buffer[first..], n);
+    say_bytes(say::BYTES, bytes, n);
 }

@@ -85,9 +85,9 @@ redatagram BR
 lend PQ
 store L
 fill Y
-peek payload NR
-peek reply NR
-peek store NR
+peek payload PR
+peek reply QR
+peek store LR
 open
 feed B
 offer OONNNN

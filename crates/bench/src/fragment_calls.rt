@@ -51,17 +51,16 @@ fn fragment(
 
 // Into as many lent bytes as the command's last number.
 fn collect(c: Command, originator: &[u8], groups: Groups, store: &mut [u8]) -> Groups {
-    let mut space = [0u8; ROOM];
-    let room: &mut [u8] = &mut space;
+    let mut room = [0u8; ROOM];
     let s = node::collect_group(
         groups,
         store,
         !c.is_absent,
         originator,
         c.z,
-        lent(room, 0, c.t as usize),
+        lent(&mut room, 0, c.t as usize),
     );
-    served(s, room)
+    served(s, &room)
 }
 
 // What a call came to; a collected group stands at the front of `room`.

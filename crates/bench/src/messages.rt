@@ -75,10 +75,9 @@ fn read_line(bytes: &[u8], again: bool, len: u32) {
         fields::say_line(say::OK, r.line);
         return;
     }
-    let mut space = [0u8; ROOM];
-    let room: &mut [u8] = &mut space;
-    let w = node::write_line(r.line, lent(room, 0, len as usize));
-    say_line_again(w, room);
+    let mut room = [0u8; ROOM];
+    let w = node::write_line(r.line, lent(&mut room, 0, len as usize));
+    say_line_again(w, &room);
 }
 
 fn say_line_again(w: LineWriting, room: &[u8]) {
@@ -101,10 +100,9 @@ fn read_datagram(bytes: &[u8], again: bool, len: u32) {
         return;
     }
     let payload = node::payload(bytes, r.payload_at, r.payload_len);
-    let mut space = [0u8; ROOM];
-    let room: &mut [u8] = &mut space;
-    let w = node::write_datagram(r.message, payload, lent(room, 0, len as usize));
-    say_datagram_again(w, room);
+    let mut room = [0u8; ROOM];
+    let w = node::write_datagram(r.message, payload, lent(&mut room, 0, len as usize));
+    say_datagram_again(w, &room);
 }
 
 fn say_datagram_again(w: DatagramWriting, room: &[u8]) {

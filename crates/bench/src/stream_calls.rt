@@ -64,11 +64,10 @@ fn taken(t: TableTaken) -> Table {
 
 // Into `len` lent bytes.
 fn save(table: Table, len: u32) -> Table {
-    let mut space = [0u8; ROOM];
-    let room: &mut [u8] = &mut space;
-    let saved = node::save(table, lent(room, 0, len as usize));
+    let mut room = [0u8; ROOM];
+    let saved = node::save(table, lent(&mut room, 0, len as usize));
     match saved {
-        Saved::Written(len) => say_bytes(say::IMAGE, room, len),
+        Saved::Written(n) => say_bytes(say::IMAGE, &room, n),
         Saved::Refused(number) => refused(number),
     }
     table
