@@ -1,6 +1,5 @@
 -- Thirteen places of nothing, and no headers.
 use borrow.Author.Needs.{needs}
-use Rattle.tokens.specs.Cuts.{before}
 use Rattle.line_places.specs.Places.{noPlaces}
 use Rattle.line_places.proofs.malformed.Statement.{statement}
 use Rattle.line_places.proofs.malformed.Tie as tie

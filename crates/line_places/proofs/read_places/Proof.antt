@@ -5,12 +5,12 @@ use native.Mathlib.Omega.{arith}
 use borrow.Author.Needs.{needs}
 use borrow.Author.Tests.{not-true, not-false}
 use lib.ListN.{length}
-use Rattle.tokens.specs.Cuts.{before}
 use Rattle.tokens.specs.Tokens.{words, space}
 use Rattle.tokens.specs.Steps.{wordsFrom}
 use Rattle.tokens.proofs.Words.{word-short}
 use Rattle.line_places.proofs.Walk.{Walked}
 use Rattle.line_places.proofs.Turns.{front-part, turns-start, turns-end, turn-bad, turn-cut, turn-again, turn-kept, turn-unfit, turn-room, turn-header}
+use Rattle.tokens.specs.Cuts.{before}
 use Rattle.line_places.proofs.read_places.Statement.{statement}
 use Rattle.line_places.proofs.read_places.Tie as tie
 

@@ -6,7 +6,6 @@ use borrow.Author.Needs.{needs}
 use lib.ListN.{length, take, drop-of-length-le}
 use lib.Seq.{take-all}
 use mathlib.Core.List.{[]}
-use Rattle.tokens.specs.Cuts.{before}
 use Rattle.tokens.proofs.Words.{part-from}
 use Rattle.line_places.proofs.value.Statement.{statement}
 use Rattle.line_places.proofs.value.Tie as tie

@@ -1,7 +1,6 @@
 -- The part behind `ihave ` up to the next space.
 use mathlib.Core.Path.{sym}
 use borrow.Author.Needs.{needs}
-use Rattle.replies.specs.Texts.{part}
 use Rattle.replies.proofs.Tokens.{token-none, token-part}
 use Rattle.replies.proofs.texts.token.Statement.{statement}
 use Rattle.replies.proofs.texts.token.Tie as tie
