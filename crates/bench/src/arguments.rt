@@ -3,9 +3,10 @@
 // N 4294967295, H 65535, L the store's size, R 16,384, P the payload buffer's size, Q the reply buffer's, Y 255.
 use crate::buffers;
 use crate::command::Command;
+use crate::command::DIGITS;
 use crate::command::is_byte;
 use crate::command::part;
-use crate::forms::end_of;
+use crate::command::place_of;
 use crate::say::is_plain;
 use text::Id;
 use text::Number;
@@ -136,8 +137,8 @@ fn spelled(word: &[u8], at: usize) -> Spelling
 fn digit(b: u8) -> usize
     ensures { λ r. ⌜ r ≤ 16 ⌝ }
 {
-    let digits = b"0123456789ABCDEF";
-    end_of(digits, 0, b)
+    let digits = DIGITS;
+    place_of(&digits, 0, b)
 }
 
 // The number of bytes that a word stands for, which are written over its front: `-` is no bytes.

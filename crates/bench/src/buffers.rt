@@ -72,7 +72,7 @@ fn fill_all(s: &mut [u8], b: u8) {
 }
 
 // The `len` bytes from the place `at` on, of the buffer that is the part of a memory from `from` on with `size` bytes. The place is within the
-// buffer by the command's form.
+// buffer by the command's form: `part` would cut a place beyond it to its end.
 fn peek(memory: &[u8], from: usize, size: usize, at: u32, len: u32) {
     let n = len as usize;
     let bytes = part(part(memory, from, size), at as usize, n);

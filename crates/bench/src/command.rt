@@ -1,8 +1,12 @@
 // A command by value: which it is, and its arguments, as numbers and as places of the decoded line.
 ghost use Prim.Native.Nat.{_≤_};
+ghost use lib.ListN.{length};
 
 // The number of a command that is none.
 pub(crate) const BAD: u8 = 255;
+
+// The digits of a byte in a script, `%XX`.
+pub(crate) const DIGITS: [u8; 16] = *b"0123456789ABCDEF";
 
 // The number of a line that has no answer.
 pub(crate) const SILENT: u8 = 254;
@@ -95,4 +99,19 @@ pub(crate) fn within(n: usize, len: usize) -> usize
         return n;
     }
     len
+}
+
+// The place of the next `b` from the place `at` on, or the number of bytes where there is none.
+pub(crate) fn place_of(s: &[u8], at: usize, b: u8) -> usize
+    requires { ⌜ at ≤ length (now s) ⌝ }
+    ensures { λ r. ⌜ (at ≤ r) × (r ≤ length (now (s .entry))) ⌝ }
+{
+    let mut i = at;
+    while i < s.len() {
+        if s[i] == b {
+            return i;
+        }
+        i += 1;
+    }
+    i
 }

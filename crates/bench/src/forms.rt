@@ -3,9 +3,8 @@ use crate::arguments;
 use crate::command::BAD;
 use crate::command::Command;
 use crate::command::SILENT;
+use crate::command::place_of;
 use crate::command::within;
-ghost use Prim.Native.Nat.{_≤_};
-ghost use lib.ListN.{length};
 
 // A longer line is one `bad command`.
 pub(crate) const LONGEST_LINE: usize = 49999;
@@ -107,7 +106,7 @@ fn parse_by(forms: &[u8], line: &mut [u8]) -> Command {
     let mut verb: u8 = 0;
     let mut at: usize = 0;
     while at < forms.len() {
-        let end = end_of(forms, at, b'\n');
+        let end = place_of(forms, at, b'\n');
         let from = behind_words(&forms[at..end], line);
         if from > 0 {
             return parse_rest(&forms[at..end], line, from, verb);
@@ -146,7 +145,7 @@ fn parse_rest(form: &[u8], line: &mut [u8], from: usize, verb: u8) -> Command {
         if at > line.len() {
             return c.bad();
         }
-        let end = end_of(line, at, b' ');
+        let end = place_of(line, at, b' ');
         c = arguments::with_argument(c, form[i], &mut line[at..end], at);
         at = end + 1;
         i += 1;
@@ -155,19 +154,4 @@ fn parse_rest(form: &[u8], line: &mut [u8], from: usize, verb: u8) -> Command {
         return c.bad();
     }
     c
-}
-
-// Where what begins at the place `at` ends: at the next `stop`, or with the bytes.
-pub(crate) fn end_of(s: &[u8], at: usize, stop: u8) -> usize
-    requires { ⌜ at ≤ length (now s) ⌝ }
-    ensures { λ r. ⌜ (at ≤ r) × (r ≤ length (now (s .entry))) ⌝ }
-{
-    let mut i = at;
-    while i < s.len() {
-        if s[i] == stop {
-            return i;
-        }
-        i += 1;
-    }
-    i
 }

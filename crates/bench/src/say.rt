@@ -1,8 +1,9 @@
 // Answers, said to standard output piece by piece.
+use crate::command::DIGITS;
 use crate::command::SILENT;
 use crate::command::is_byte;
 use crate::command::part;
-use crate::forms::end_of;
+use crate::command::place_of;
 use libc::STDOUT_FILENO;
 ghost use Prim.Native.Nat.{_≤_};
 ghost use lib.ListN.{length};
@@ -176,7 +177,7 @@ fn say_nth(words: &[u8], n: u8) {
     let mut left = n;
     let mut at: usize = 0;
     while at < words.len() {
-        let end = end_of(words, at, b'|');
+        let end = place_of(words, at, b'|');
         if left == 0 {
             io::write_all(STDOUT_FILENO, &words[at..end]);
             return;
@@ -280,7 +281,7 @@ pub(crate) fn is_plain(b: u8) -> bool {
 
 // `%XX`, in capitals.
 fn escape(b: u8) {
-    let digits = b"0123456789ABCDEF";
+    let digits = DIGITS;
     let high = (b / 16) as usize;
     let low = (b % 16) as usize;
     let escaped = [b'%', digits[high], digits[low]];

@@ -53,8 +53,8 @@ fn malformed() -> Places
     }
 }
 
-// What stands behind the first n bytes.
-fn behind(s: &[u8], n: usize) -> &[u8]
+// What stands past the first n bytes.
+fn past(s: &[u8], n: usize) -> &[u8]
     requires { ⌜ n ≤ length (now s) ⌝ }
     ensures { λ r. ⌜ now r ≡ take (length (now (s .entry)) - n) (drop n (now (s .entry))) ⌝ }
 {
@@ -70,7 +70,7 @@ pub fn read_places(t: &[u8]) -> Places
     let mut headers = held_texts::no_headers();
     let mut at = 0;
     while at <= t.len() {
-        let word = tokens::before_byte(behind(t, at), b' ');
+        let word = tokens::before_byte(past(t, at), b' ');
         let n = tokens::bytes_before(word, b'=');
         let chk = slots[names::CHK];
         if !line_words::may_stand(chk.given, n, word.len()) {
@@ -78,7 +78,7 @@ pub fn read_places(t: &[u8]) -> Places
         }
         let start = at + n + 1;
         let key = lengths::part(word, n);
-        let value = behind(word, n + 1);
+        let value = past(word, n + 1);
         at = at + word.len() + 1;
         let k = names::reserved_place(key);
         if k < 13 {

@@ -104,7 +104,7 @@ spells-end s w i h k = rw (drop-of-length-le s {i = i} (omega arith), drop-of-le
 
 -- ---- the kind
 
--- the last word of a row
+-- the last word of a list
 pub or-false : (a : Bool) → a or false ≡ a
 or-false true = refl
 or-false false = refl

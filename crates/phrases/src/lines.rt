@@ -49,7 +49,7 @@ fn is_word(s: &[u8], word: &[u8]) -> bool
     true
 }
 
-// A wish to leave.
+// Whether a line is a wish to leave: one of these words, in any letter case.
 pub(crate) fn leaves(s: &[u8]) -> bool
     ensures { λ r. ⌜ r ≡ some (spells (now (s .entry))) leaving ⌝ }
 {
@@ -65,7 +65,7 @@ pub(crate) fn leaves(s: &[u8]) -> bool
     is_word(s, b"exit")
 }
 
-// A question.
+// Whether a line is a question: one of these words, in any letter case.
 pub(crate) fn asks(s: &[u8]) -> bool
     ensures { λ r. ⌜ r ≡ some (spells (now (s .entry))) asking ⌝ }
 {

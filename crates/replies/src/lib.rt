@@ -40,7 +40,7 @@ pub fn say(reply: Reply, s: &[u8], out: &mut [u8]) -> usize
         Reply::Ack(id) => texts::put_id(texts::ACK, texts::BAD, id, texts::EH_LF, texts::HELP, out),
         Reply::Bad(id) => texts::put_id(
             texts::BAD,
-            texts::ERROR_AND_TOKEN,
+            texts::ERROR_T,
             id,
             texts::EH_LF,
             texts::HELP,

@@ -7,33 +7,45 @@ ghost use Rattle.text.specs.Hex.{hexDigits};
 ghost use Rattle.replies.specs.Replies.{errorToken, tokenGood, errs, wrote};
 ghost use Rattle.replies.specs.Texts.{part};
 
-// The texts of all replies stand one behind the other, so that the check of a reply meets numbers, not a literal for each text.
-// These are the places where they begin, each where the one before it ends; the LFs of `error` and of `eh?` have names of their own.
+// The texts of all replies stand one behind the other, so that the check of a reply meets numbers, not a literal for each text. These are the places
+// in them where a text, or what ends one, begins; a text goes up to a later place.
+
+// `send `
 pub(crate) const SEND: usize = 0;
 
+// `ack `
 pub(crate) const ACK: usize = 5;
 
+// `bad `
 pub(crate) const BAD: usize = 9;
 
-pub(crate) const ERROR_AND_TOKEN: usize = 13;
+// `error `, before a token
+pub(crate) const ERROR_T: usize = 13;
 
+// `error` and its LF
 pub(crate) const ERROR: usize = 19;
 
+// that LF, which also ends `send ID` and `error T`
 pub(crate) const ERROR_LF: usize = 24;
 
+// `bye` and its LF
 pub(crate) const BYE: usize = 25;
 
+// `eh?`, its LF and the prompt
 pub(crate) const EH: usize = 29;
 
+// that LF and the prompt, which also end `ack ID` and `bad ID`
 pub(crate) const EH_LF: usize = 32;
 
+// the prompt
 pub(crate) const PROMPT: usize = 33;
 
+// `This is DAPPS.`, its LF and the prompt
 pub(crate) const HELP: usize = 42;
 
 pub(crate) const END: usize = 66;
 
-// The texts from one place up to another, at a place of the buffer.
+// The texts from one place up to another, at a place of the buffer; whether they fit.
 fn copy(from: usize, to: usize, out: &mut [u8], at: usize) -> bool
     requires { ⌜ (from ≤ to) × (to ≤ 66) ⌝ }
     ensures { λ r. ⌜ (r ≡ fits (part from to) at (now (out .entry))) × (now (out .exit) ≡ placed (part from to) at (now (out .entry))) ⌝ }
@@ -42,7 +54,7 @@ fn copy(from: usize, to: usize, out: &mut [u8], at: usize) -> bool
     octets::copy_at(&texts[from..to], out, at)
 }
 
-// The texts from one place up to another, alone.
+// The same, alone; how many bytes, none where they do not fit.
 pub(crate) fn put(from: usize, to: usize, out: &mut [u8]) -> usize
     requires { ⌜ (from ≤ to) × (to ≤ 66) ⌝ }
     ensures { λ r. ⌜ (r ≡ wrote (part from to) (now (out .entry))) × (now (out .exit) ≡ placed (part from to) 0 (now (out .entry))) ⌝ }
@@ -53,26 +65,26 @@ pub(crate) fn put(from: usize, to: usize, out: &mut [u8]) -> usize
     0
 }
 
-// Texts, an id, and the texts from `tail` up to `end`.
+// The texts from `head` up to `head_end`, an id, and those from `tail` up to `tail_end`.
 pub(crate) fn put_id(
-    from: usize,
-    to: usize,
+    head: usize,
+    head_end: usize,
     id: u32,
     tail: usize,
-    end: usize,
+    tail_end: usize,
     out: &mut [u8],
 ) -> usize
-    requires { ⌜ (from ≤ to) × (to ≤ 66) × (tail ≤ end) × (end ≤ 66) ⌝ }
-    ensures { λ r. ⌜ (r ≡ wrote (part from to ++ (hexDigits 7 id ++ part tail end)) (now (out .entry))) × (now (out .exit) ≡ placed (part from to ++ (hexDigits 7 id ++ part tail end)) 0 (now (out .entry))) ⌝ }
+    requires { ⌜ (head ≤ «head_end») × («head_end» ≤ 66) × (tail ≤ «tail_end») × («tail_end» ≤ 66) ⌝ }
+    ensures { λ r. ⌜ (r ≡ wrote (part head «head_end» ++ (hexDigits 7 id ++ part tail «tail_end»)) (now (out .entry))) × (now (out .exit) ≡ placed (part head «head_end» ++ (hexDigits 7 id ++ part tail «tail_end»)) 0 (now (out .entry))) ⌝ }
 {
-    let h = to - from;
-    let n = h + 7 + (end - tail);
+    let h = head_end - head;
+    let n = h + 7 + (tail_end - tail);
     if out.len() < n {
         return 0;
     }
-    copy(from, to, out, 0);
+    copy(head, head_end, out, 0);
     text::write_id(id, out, h);
-    copy(tail, end, out, h + 7);
+    copy(tail, tail_end, out, h + 7);
     n
 }
 
@@ -87,7 +99,7 @@ pub(crate) fn put_error(t: &[u8], out: &mut [u8]) -> usize
     if out.len() < n + 7 {
         return 0;
     }
-    copy(ERROR_AND_TOKEN, ERROR, out, 0);
+    copy(ERROR_T, ERROR, out, 0);
     octets::copy_at(t, out, 6);
     copy(ERROR_LF, BYE, out, n + 6);
     n + 7

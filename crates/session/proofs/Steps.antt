@@ -1,5 +1,5 @@
 -- What the code takes in and says is what feeding the piece comes to.
-use mathlib.Core.Path.{_≡_, refl, sym, ap, _∙_, subst}
+use mathlib.Core.Path.{_≡_, sym, ap, _∙_, subst}
 use Prim.Native.Nat.{ℕ, _+_, _-_, _≤_, _<_}
 use native.Mathlib.Omega.{arith}
 use native.Mathlib.Decide.{decLe}
@@ -29,7 +29,7 @@ use Rattle.session.proofs.Runs.{run-line, run-long, run-obey, run-end, 
 
 -- ---- the records
 
-pub spoken-by : (o q : Out Session Happening) (r : answer.Record) (reply after : List ℕ) → o ≡ q → Spoken q r reply after → Spoken o r reply after
+spoken-by : (o q : Out Session Happening) (r : answer.Record) (reply after : List ℕ) → o ≡ q → Spoken q r reply after → Spoken o r reply after
 spoken-by o q r reply after e k = (
   k .0 ∙ ap {B = answer.Record} (λ (y : Out Session Happening). record { answer = answer.made; used = y .used; happening = y .happened; written = wrote (y .reply) reply; next = y .state }) (sym e),
   k .1 ∙ ap (λ (y : Out Session Happening). placed (y .reply) 0 reply) (sym e),

@@ -1,4 +1,4 @@
--- What the private functions promise one another. No public promise cites this file.
+-- What the private functions promise one another. No function's public promise cites this file.
 use mathlib.Core.Path.{_≡_}
 use Prim.Native.Nat.{ℕ}
 use mathlib.Core.List.{List, []}
@@ -33,7 +33,7 @@ still s = record { reply = []; happening = nothing; next = s }
 abbrev pub outOf : ℕ → Turn → Out Session Happening
 outOf n t = record { used = n; state = t .next; reply = t .reply; happened = t .happening }
 
--- what a line that is whole leads to, by the mode: between messages, or after `send`
+-- what a line that is whole leads to, between messages or after `send`: talk's `lineHeard`, by the two fields that it looks at
 unfoldable pub lineTurn : ℕ → Terms → List ℕ → Turn
 lineTurn mode t text = if mode =? 0 then heard text else dataHeard t text
 

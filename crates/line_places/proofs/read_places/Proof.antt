@@ -32,10 +32,10 @@ returns c =
     let at-loop = c .before .before .before .before .before .before .before .before .loop in
     let at-loop-test = c .before .before .before .before .before .before .before .loop-test in
     let at-before-byte = c .before .before .before .before .before .before-byte in
-    let at-behind = c .before .before .before .before .before .before .behind in
+    let at-past = c .before .before .before .before .before .before .past in
     let at-bytes-before = c .before .before .before .before .bytes-before in
     let at-may-stand = c .before .before .may-stand in
-    turn-bad (at-args .t .now) (at-loop .slots) (at-loop .headers) (at-loop .at) (at-loop .inv .1) (at-loop-test .taken) (at-before-byte .result .now) (at-before-byte .ensures ∙ ap (before space) (at-behind .ensures)) (at-bytes-before .result) (at-bytes-before .ensures .0) (at-may-stand .result) (at-may-stand .ensures) (not-true _ (c .before .if1 .taken)) (c .malformed .result) (c .malformed .ensures)
+    turn-bad (at-args .t .now) (at-loop .slots) (at-loop .headers) (at-loop .at) (at-loop .inv .1) (at-loop-test .taken) (at-before-byte .result .now) (at-before-byte .ensures ∙ ap (before space) (at-past .ensures)) (at-bytes-before .result) (at-bytes-before .ensures .0) (at-may-stand .result) (at-may-stand .ensures) (not-true _ (c .before .if1 .taken)) (c .malformed .result) (c .malformed .ensures)
 
 add-start : tie.Need-add-start Inv-loop μ-loop
 add-start c =
@@ -43,9 +43,9 @@ add-start c =
     let at-loop = c .before .before .before .before .before .before .before .loop in
     let at-loop-test = c .before .before .before .before .before .before .loop-test in
     let at-before-byte = c .before .before .before .before .before-byte in
-    let at-behind = c .before .before .before .before .before .behind in
+    let at-past = c .before .before .before .before .before .past in
     let at-bytes-before = c .before .before .before .bytes-before in
-    omega (arith, word-short (at-args .t .now) (at-loop .at) (at-loop-test .taken) (at-before-byte .result .now) (at-before-byte .ensures ∙ ap (before space) (at-behind .ensures)), at-bytes-before .ensures .1)
+    omega (arith, word-short (at-args .t .now) (at-loop .at) (at-loop-test .taken) (at-before-byte .result .now) (at-before-byte .ensures ∙ ap (before space) (at-past .ensures)), at-bytes-before .ensures .1)
 
 add-start-2 : tie.Need-add-start-2 Inv-loop μ-loop
 add-start-2 c =
@@ -53,30 +53,30 @@ add-start-2 c =
     let at-loop = c .before .before .before .before .before .before .before .loop in
     let at-loop-test = c .before .before .before .before .before .before .loop-test in
     let at-before-byte = c .before .before .before .before .before-byte in
-    let at-behind = c .before .before .before .before .before .behind in
+    let at-past = c .before .before .before .before .before .past in
     let at-bytes-before = c .before .before .before .bytes-before in
-    omega (arith, word-short (at-args .t .now) (at-loop .at) (at-loop-test .taken) (at-before-byte .result .now) (at-before-byte .ensures ∙ ap (before space) (at-behind .ensures)), at-bytes-before .ensures .1)
+    omega (arith, word-short (at-args .t .now) (at-loop .at) (at-loop-test .taken) (at-before-byte .result .now) (at-before-byte .ensures ∙ ap (before space) (at-past .ensures)), at-bytes-before .ensures .1)
 
-add-behind : tie.Need-add-behind Inv-loop μ-loop
-add-behind c =
+add-past : tie.Need-add-past Inv-loop μ-loop
+add-past c =
     let at-args = c .before .before .before .before .before .before .before .before .before .before .before .before .args in
     let at-loop = c .before .before .before .before .before .before .before .before .loop in
     let at-loop-test = c .before .before .before .before .before .before .before .loop-test in
     let at-before-byte = c .before .before .before .before .before .before-byte in
-    let at-behind = c .before .before .before .before .before .before .behind in
+    let at-past = c .before .before .before .before .before .before .past in
     let at-bytes-before = c .before .before .before .before .bytes-before in
-    omega (arith, word-short (at-args .t .now) (at-loop .at) (at-loop-test .taken) (at-before-byte .result .now) (at-before-byte .ensures ∙ ap (before space) (at-behind .ensures)), at-bytes-before .ensures .1)
+    omega (arith, word-short (at-args .t .now) (at-loop .at) (at-loop-test .taken) (at-before-byte .result .now) (at-before-byte .ensures ∙ ap (before space) (at-past .ensures)), at-bytes-before .ensures .1)
 
-behind-requires-2 : tie.Need-behind-requires-2 Inv-loop μ-loop
-behind-requires-2 c κs =
+past-requires-2 : tie.Need-past-requires-2 Inv-loop μ-loop
+past-requires-2 c κs =
     let at-args = c .before .before .before .before .before .before .before .before .before .before .before .before .args in
     let at-loop = c .before .before .before .before .before .before .before .before .loop in
     let at-loop-test = c .before .before .before .before .before .before .before .loop-test in
     let at-before-byte = c .before .before .before .before .before .before-byte in
-    let at-behind = c .before .before .before .before .before .before .behind in
+    let at-past = c .before .before .before .before .before .before .past in
     let at-bytes-before = c .before .before .before .before .bytes-before in
     let at-may-stand = c .before .before .may-stand in
-    omega (arith, turn-cut (at-args .t .now) (at-loop .slots) (at-loop .headers) (at-loop .at) (at-loop .inv .1) (at-loop-test .taken) (at-before-byte .result .now) (at-before-byte .ensures ∙ ap (before space) (at-behind .ensures)) (at-bytes-before .result) (at-bytes-before .ensures .0) (at-may-stand .result) (at-may-stand .ensures) (not-false _ (c .before .if1 .left)))
+    omega (arith, turn-cut (at-args .t .now) (at-loop .slots) (at-loop .headers) (at-loop .at) (at-loop .inv .1) (at-loop-test .taken) (at-before-byte .result .now) (at-before-byte .ensures ∙ ap (before space) (at-past .ensures)) (at-bytes-before .result) (at-bytes-before .ensures .0) (at-may-stand .result) (at-may-stand .ensures) (not-false _ (c .before .if1 .left)))
 
 add-at : tie.Need-add-at Inv-loop μ-loop
 add-at c =
@@ -84,8 +84,8 @@ add-at c =
     let at-loop = c .before .before .before .before .before .before .before .before .before .loop in
     let at-loop-test = c .before .before .before .before .before .before .before .before .loop-test in
     let at-before-byte = c .before .before .before .before .before .before .before-byte in
-    let at-behind = c .before .before .before .before .before .before .before .behind in
-    omega (arith, word-short (at-args .t .now) (at-loop .at) (at-loop-test .taken) (at-before-byte .result .now) (at-before-byte .ensures ∙ ap (before space) (at-behind .ensures)))
+    let at-past = c .before .before .before .before .before .before .before .past in
+    omega (arith, word-short (at-args .t .now) (at-loop .at) (at-loop-test .taken) (at-before-byte .result .now) (at-before-byte .ensures ∙ ap (before space) (at-past .ensures)))
 
 add-at-2 : tie.Need-add-at-2 Inv-loop μ-loop
 add-at-2 c =
@@ -93,8 +93,8 @@ add-at-2 c =
     let at-loop = c .before .before .before .before .before .before .before .before .before .loop in
     let at-loop-test = c .before .before .before .before .before .before .before .before .loop-test in
     let at-before-byte = c .before .before .before .before .before .before .before-byte in
-    let at-behind = c .before .before .before .before .before .before .before .behind in
-    omega (arith, word-short (at-args .t .now) (at-loop .at) (at-loop-test .taken) (at-before-byte .result .now) (at-before-byte .ensures ∙ ap (before space) (at-behind .ensures)))
+    let at-past = c .before .before .before .before .before .before .before .past in
+    omega (arith, word-short (at-args .t .now) (at-loop .at) (at-loop-test .taken) (at-before-byte .result .now) (at-before-byte .ensures ∙ ap (before space) (at-past .ensures)))
 
 returns-2 : tie.Need-returns-2 Inv-loop μ-loop
 returns-2 c =
@@ -102,14 +102,14 @@ returns-2 c =
     let at-loop = c .before .before .before .before .before .before .before .before .before .before .before .before .before .before .loop in
     let at-loop-test = c .before .before .before .before .before .before .before .before .before .before .before .before .before .loop-test in
     let at-before-byte = c .before .before .before .before .before .before .before .before .before .before .before .before-byte in
-    let at-behind = c .before .before .before .before .before .before .before .before .before .before .before .before .behind in
+    let at-past = c .before .before .before .before .before .before .before .before .before .before .before .before .past in
     let at-bytes-before = c .before .before .before .before .before .before .before .before .before .before .bytes-before in
     let at-may-stand = c .before .before .before .before .before .before .before .before .may-stand in
     let at-if1 = c .before .before .before .before .before .before .before .if1 in
     let at-part = c .before .before .before .before .before .before .part in
     let at-reserved-place = c .before .before .before .before .reserved-place in
     let at-if2 = c .before .before .before .if2 in
-    turn-again (at-args .t .now) (at-loop .slots) (at-loop .headers) (at-loop .at) (at-loop .inv .1) (at-loop-test .taken) (at-before-byte .result .now) (at-before-byte .ensures ∙ ap (before space) (at-behind .ensures)) (at-bytes-before .result) (at-bytes-before .ensures .0) (at-may-stand .result) (at-may-stand .ensures) (not-false _ (at-if1 .left)) (at-part .result .now) (front-part (at-before-byte .result .now) (at-bytes-before .result) (at-part .result .now) (at-part .ensures)) (at-reserved-place .result) (at-reserved-place .ensures) (at-if2 .taken) (c .before .if3 .taken) (c .malformed2 .result) (c .malformed2 .ensures)
+    turn-again (at-args .t .now) (at-loop .slots) (at-loop .headers) (at-loop .at) (at-loop .inv .1) (at-loop-test .taken) (at-before-byte .result .now) (at-before-byte .ensures ∙ ap (before space) (at-past .ensures)) (at-bytes-before .result) (at-bytes-before .ensures .0) (at-may-stand .result) (at-may-stand .ensures) (not-false _ (at-if1 .left)) (at-part .result .now) (front-part (at-before-byte .result .now) (at-bytes-before .result) (at-part .result .now) (at-part .ensures)) (at-reserved-place .result) (at-reserved-place .ensures) (at-if2 .taken) (c .before .if3 .taken) (c .malformed2 .result) (c .malformed2 .ensures)
 
 loop-less : tie.Need-loop-less Inv-loop μ-loop
 loop-less c =
@@ -117,8 +117,8 @@ loop-less c =
     let at-loop = c .before .before .before .before .before .before .before .before .before .before .before .before .before .before .loop in
     let at-loop-test = c .before .before .before .before .before .before .before .before .before .before .before .before .before .loop-test in
     let at-before-byte = c .before .before .before .before .before .before .before .before .before .before .before .before-byte in
-    let at-behind = c .before .before .before .before .before .before .before .before .before .before .before .before .behind in
-    omega (arith, word-short (at-args .t .now) (at-loop .at) (at-loop-test .taken) (at-before-byte .result .now) (at-before-byte .ensures ∙ ap (before space) (at-behind .ensures)))
+    let at-past = c .before .before .before .before .before .before .before .before .before .before .before .before .past in
+    omega (arith, word-short (at-args .t .now) (at-loop .at) (at-loop-test .taken) (at-before-byte .result .now) (at-before-byte .ensures ∙ ap (before space) (at-past .ensures)))
 
 loop-again : tie.Need-loop-again Inv-loop μ-loop
 loop-again c =
@@ -126,15 +126,15 @@ loop-again c =
     let at-loop = c .before .before .before .before .before .before .before .before .before .before .before .before .before .before .loop in
     let at-loop-test = c .before .before .before .before .before .before .before .before .before .before .before .before .before .loop-test in
     let at-before-byte = c .before .before .before .before .before .before .before .before .before .before .before .before-byte in
-    let at-behind = c .before .before .before .before .before .before .before .before .before .before .before .before .behind in
+    let at-past = c .before .before .before .before .before .before .before .before .before .before .before .before .past in
     let at-bytes-before = c .before .before .before .before .before .before .before .before .before .before .bytes-before in
     let at-may-stand = c .before .before .before .before .before .before .before .before .may-stand in
     let at-if1 = c .before .before .before .before .before .before .before .if1 in
     let at-part = c .before .before .before .before .before .before .part in
     let at-reserved-place = c .before .before .before .before .reserved-place in
     let at-if2 = c .before .before .before .if2 in
-    let at-behind2 = c .before .before .before .before .before .behind2 in
-    (omega (arith, word-short (at-args .t .now) (at-loop .at) (at-loop-test .taken) (at-before-byte .result .now) (at-before-byte .ensures ∙ ap (before space) (at-behind .ensures))), turn-kept (at-args .t .now) (at-loop .slots) (at-loop .headers) (at-loop .at) (at-loop .inv .1) (at-loop-test .taken) (at-before-byte .result .now) (at-before-byte .ensures ∙ ap (before space) (at-behind .ensures)) (at-bytes-before .result) (at-bytes-before .ensures .0) (at-may-stand .result) (at-may-stand .ensures) (not-false _ (at-if1 .left)) (at-part .result .now) (front-part (at-before-byte .result .now) (at-bytes-before .result) (at-part .result .now) (at-part .ensures)) (at-reserved-place .result) (at-reserved-place .ensures) (at-if2 .taken) (c .before .if3 .left) (at-behind2 .result .now) (at-behind2 .ensures) (c .place-at .result) (c .place-at .ensures))
+    let at-past2 = c .before .before .before .before .before .past2 in
+    (omega (arith, word-short (at-args .t .now) (at-loop .at) (at-loop-test .taken) (at-before-byte .result .now) (at-before-byte .ensures ∙ ap (before space) (at-past .ensures))), turn-kept (at-args .t .now) (at-loop .slots) (at-loop .headers) (at-loop .at) (at-loop .inv .1) (at-loop-test .taken) (at-before-byte .result .now) (at-before-byte .ensures ∙ ap (before space) (at-past .ensures)) (at-bytes-before .result) (at-bytes-before .ensures .0) (at-may-stand .result) (at-may-stand .ensures) (not-false _ (at-if1 .left)) (at-part .result .now) (front-part (at-before-byte .result .now) (at-bytes-before .result) (at-part .result .now) (at-part .ensures)) (at-reserved-place .result) (at-reserved-place .ensures) (at-if2 .taken) (c .before .if3 .left) (at-past2 .result .now) (at-past2 .ensures) (c .place-at .result) (c .place-at .ensures))
 
 returns-3 : tie.Need-returns-3 Inv-loop μ-loop
 returns-3 c =
@@ -142,16 +142,16 @@ returns-3 c =
     let at-loop = c .before .before .before .before .before .before .before .before .before .before .before .before .before .before .loop in
     let at-loop-test = c .before .before .before .before .before .before .before .before .before .before .before .before .before .loop-test in
     let at-before-byte = c .before .before .before .before .before .before .before .before .before .before .before .before-byte in
-    let at-behind = c .before .before .before .before .before .before .before .before .before .before .before .before .behind in
+    let at-past = c .before .before .before .before .before .before .before .before .before .before .before .before .past in
     let at-bytes-before = c .before .before .before .before .before .before .before .before .before .before .bytes-before in
     let at-may-stand = c .before .before .before .before .before .before .before .before .may-stand in
     let at-if1 = c .before .before .before .before .before .before .before .if1 in
     let at-part = c .before .before .before .before .before .before .part in
     let at-reserved-place = c .before .before .before .before .reserved-place in
     let at-if2 = c .before .before .before .if2 in
-    let at-behind2 = c .before .before .before .before .before .behind2 in
+    let at-past2 = c .before .before .before .before .before .past2 in
     let at-header-fits = c .before .before .header-fits in
-    turn-unfit (at-args .t .now) (at-loop .slots) (at-loop .headers) (at-loop .at) (at-loop .inv .1) (at-loop-test .taken) (at-before-byte .result .now) (at-before-byte .ensures ∙ ap (before space) (at-behind .ensures)) (at-bytes-before .result) (at-bytes-before .ensures .0) (at-may-stand .result) (at-may-stand .ensures) (not-false _ (at-if1 .left)) (at-part .result .now) (front-part (at-before-byte .result .now) (at-bytes-before .result) (at-part .result .now) (at-part .ensures)) (at-reserved-place .result) (at-reserved-place .ensures) (at-if2 .left) (at-behind2 .result .now) (at-behind2 .ensures) (at-header-fits .result) (at-header-fits .ensures) (not-true _ (c .before .if4 .taken)) (c .malformed3 .result) (c .malformed3 .ensures)
+    turn-unfit (at-args .t .now) (at-loop .slots) (at-loop .headers) (at-loop .at) (at-loop .inv .1) (at-loop-test .taken) (at-before-byte .result .now) (at-before-byte .ensures ∙ ap (before space) (at-past .ensures)) (at-bytes-before .result) (at-bytes-before .ensures .0) (at-may-stand .result) (at-may-stand .ensures) (not-false _ (at-if1 .left)) (at-part .result .now) (front-part (at-before-byte .result .now) (at-bytes-before .result) (at-part .result .now) (at-part .ensures)) (at-reserved-place .result) (at-reserved-place .ensures) (at-if2 .left) (at-past2 .result .now) (at-past2 .ensures) (at-header-fits .result) (at-header-fits .ensures) (not-true _ (c .before .if4 .taken)) (c .malformed3 .result) (c .malformed3 .ensures)
 
 mul-t16 : tie.Need-mul-t16 Inv-loop μ-loop
 mul-t16 c =
@@ -159,16 +159,16 @@ mul-t16 c =
     let at-loop = c .before .before .before .before .before .before .before .before .before .before .before .before .before .before .loop in
     let at-loop-test = c .before .before .before .before .before .before .before .before .before .before .before .before .before .loop-test in
     let at-before-byte = c .before .before .before .before .before .before .before .before .before .before .before .before-byte in
-    let at-behind = c .before .before .before .before .before .before .before .before .before .before .before .before .behind in
+    let at-past = c .before .before .before .before .before .before .before .before .before .before .before .before .past in
     let at-bytes-before = c .before .before .before .before .before .before .before .before .before .before .bytes-before in
     let at-may-stand = c .before .before .before .before .before .before .before .before .may-stand in
     let at-if1 = c .before .before .before .before .before .before .before .if1 in
     let at-part = c .before .before .before .before .before .before .part in
     let at-reserved-place = c .before .before .before .before .reserved-place in
     let at-if2 = c .before .before .before .if2 in
-    let at-behind2 = c .before .before .before .before .before .behind2 in
+    let at-past2 = c .before .before .before .before .before .past2 in
     let at-header-fits = c .before .before .header-fits in
-    omega (arith, turn-room (at-args .t .now) (at-loop .slots) (at-loop .headers) (at-loop .at) (at-loop .inv .1) (at-loop-test .taken) (at-before-byte .result .now) (at-before-byte .ensures ∙ ap (before space) (at-behind .ensures)) (at-bytes-before .result) (at-bytes-before .ensures .0) (at-may-stand .result) (at-may-stand .ensures) (not-false _ (at-if1 .left)) (at-part .result .now) (front-part (at-before-byte .result .now) (at-bytes-before .result) (at-part .result .now) (at-part .ensures)) (at-reserved-place .result) (at-reserved-place .ensures) (at-if2 .left) (at-behind2 .result .now) (at-behind2 .ensures) (at-header-fits .result) (at-header-fits .ensures) (not-false _ (c .before .if4 .left)))
+    omega (arith, turn-room (at-args .t .now) (at-loop .slots) (at-loop .headers) (at-loop .at) (at-loop .inv .1) (at-loop-test .taken) (at-before-byte .result .now) (at-before-byte .ensures ∙ ap (before space) (at-past .ensures)) (at-bytes-before .result) (at-bytes-before .ensures .0) (at-may-stand .result) (at-may-stand .ensures) (not-false _ (at-if1 .left)) (at-part .result .now) (front-part (at-before-byte .result .now) (at-bytes-before .result) (at-part .result .now) (at-part .ensures)) (at-reserved-place .result) (at-reserved-place .ensures) (at-if2 .left) (at-past2 .result .now) (at-past2 .ensures) (at-header-fits .result) (at-header-fits .ensures) (not-false _ (c .before .if4 .left)))
 
 element-set-from-headers : tie.Need-element-set-from-headers Inv-loop μ-loop
 element-set-from-headers c =
@@ -176,16 +176,16 @@ element-set-from-headers c =
     let at-loop = c .before .before .before .before .before .before .before .before .before .before .before .before .before .before .loop in
     let at-loop-test = c .before .before .before .before .before .before .before .before .before .before .before .before .before .loop-test in
     let at-before-byte = c .before .before .before .before .before .before .before .before .before .before .before .before-byte in
-    let at-behind = c .before .before .before .before .before .before .before .before .before .before .before .before .behind in
+    let at-past = c .before .before .before .before .before .before .before .before .before .before .before .before .past in
     let at-bytes-before = c .before .before .before .before .before .before .before .before .before .before .bytes-before in
     let at-may-stand = c .before .before .before .before .before .before .before .before .may-stand in
     let at-if1 = c .before .before .before .before .before .before .before .if1 in
     let at-part = c .before .before .before .before .before .before .part in
     let at-reserved-place = c .before .before .before .before .reserved-place in
     let at-if2 = c .before .before .before .if2 in
-    let at-behind2 = c .before .before .before .before .before .behind2 in
+    let at-past2 = c .before .before .before .before .before .past2 in
     let at-header-fits = c .before .before .header-fits in
-    omega (arith, turn-room (at-args .t .now) (at-loop .slots) (at-loop .headers) (at-loop .at) (at-loop .inv .1) (at-loop-test .taken) (at-before-byte .result .now) (at-before-byte .ensures ∙ ap (before space) (at-behind .ensures)) (at-bytes-before .result) (at-bytes-before .ensures .0) (at-may-stand .result) (at-may-stand .ensures) (not-false _ (at-if1 .left)) (at-part .result .now) (front-part (at-before-byte .result .now) (at-bytes-before .result) (at-part .result .now) (at-part .ensures)) (at-reserved-place .result) (at-reserved-place .ensures) (at-if2 .left) (at-behind2 .result .now) (at-behind2 .ensures) (at-header-fits .result) (at-header-fits .ensures) (not-false _ (c .before .if4 .left)))
+    omega (arith, turn-room (at-args .t .now) (at-loop .slots) (at-loop .headers) (at-loop .at) (at-loop .inv .1) (at-loop-test .taken) (at-before-byte .result .now) (at-before-byte .ensures ∙ ap (before space) (at-past .ensures)) (at-bytes-before .result) (at-bytes-before .ensures .0) (at-may-stand .result) (at-may-stand .ensures) (not-false _ (at-if1 .left)) (at-part .result .now) (front-part (at-before-byte .result .now) (at-bytes-before .result) (at-part .result .now) (at-part .ensures)) (at-reserved-place .result) (at-reserved-place .ensures) (at-if2 .left) (at-past2 .result .now) (at-past2 .ensures) (at-header-fits .result) (at-header-fits .ensures) (not-false _ (c .before .if4 .left)))
 
 add-headers : tie.Need-add-headers Inv-loop μ-loop
 add-headers c =
@@ -193,16 +193,16 @@ add-headers c =
     let at-loop = c .before .before .before .before .before .before .before .before .before .before .before .before .before .before .loop in
     let at-loop-test = c .before .before .before .before .before .before .before .before .before .before .before .before .before .loop-test in
     let at-before-byte = c .before .before .before .before .before .before .before .before .before .before .before .before-byte in
-    let at-behind = c .before .before .before .before .before .before .before .before .before .before .before .before .behind in
+    let at-past = c .before .before .before .before .before .before .before .before .before .before .before .before .past in
     let at-bytes-before = c .before .before .before .before .before .before .before .before .before .before .bytes-before in
     let at-may-stand = c .before .before .before .before .before .before .before .before .may-stand in
     let at-if1 = c .before .before .before .before .before .before .before .if1 in
     let at-part = c .before .before .before .before .before .before .part in
     let at-reserved-place = c .before .before .before .before .reserved-place in
     let at-if2 = c .before .before .before .if2 in
-    let at-behind2 = c .before .before .before .before .before .behind2 in
+    let at-past2 = c .before .before .before .before .before .past2 in
     let at-header-fits = c .before .before .header-fits in
-    omega (arith, turn-room (at-args .t .now) (at-loop .slots) (at-loop .headers) (at-loop .at) (at-loop .inv .1) (at-loop-test .taken) (at-before-byte .result .now) (at-before-byte .ensures ∙ ap (before space) (at-behind .ensures)) (at-bytes-before .result) (at-bytes-before .ensures .0) (at-may-stand .result) (at-may-stand .ensures) (not-false _ (at-if1 .left)) (at-part .result .now) (front-part (at-before-byte .result .now) (at-bytes-before .result) (at-part .result .now) (at-part .ensures)) (at-reserved-place .result) (at-reserved-place .ensures) (at-if2 .left) (at-behind2 .result .now) (at-behind2 .ensures) (at-header-fits .result) (at-header-fits .ensures) (not-false _ (c .before .if4 .left)))
+    omega (arith, turn-room (at-args .t .now) (at-loop .slots) (at-loop .headers) (at-loop .at) (at-loop .inv .1) (at-loop-test .taken) (at-before-byte .result .now) (at-before-byte .ensures ∙ ap (before space) (at-past .ensures)) (at-bytes-before .result) (at-bytes-before .ensures .0) (at-may-stand .result) (at-may-stand .ensures) (not-false _ (at-if1 .left)) (at-part .result .now) (front-part (at-before-byte .result .now) (at-bytes-before .result) (at-part .result .now) (at-part .ensures)) (at-reserved-place .result) (at-reserved-place .ensures) (at-if2 .left) (at-past2 .result .now) (at-past2 .ensures) (at-header-fits .result) (at-header-fits .ensures) (not-false _ (c .before .if4 .left)))
 
 loop-less-2 : tie.Need-loop-less-2 Inv-loop μ-loop
 loop-less-2 c =
@@ -210,8 +210,8 @@ loop-less-2 c =
     let at-loop = c .before .before .before .before .before .before .before .before .before .before .before .before .before .before .loop in
     let at-loop-test = c .before .before .before .before .before .before .before .before .before .before .before .before .before .loop-test in
     let at-before-byte = c .before .before .before .before .before .before .before .before .before .before .before .before-byte in
-    let at-behind = c .before .before .before .before .before .before .before .before .before .before .before .before .behind in
-    omega (arith, word-short (at-args .t .now) (at-loop .at) (at-loop-test .taken) (at-before-byte .result .now) (at-before-byte .ensures ∙ ap (before space) (at-behind .ensures)))
+    let at-past = c .before .before .before .before .before .before .before .before .before .before .before .before .past in
+    omega (arith, word-short (at-args .t .now) (at-loop .at) (at-loop-test .taken) (at-before-byte .result .now) (at-before-byte .ensures ∙ ap (before space) (at-past .ensures)))
 
 loop-again-2 : tie.Need-loop-again-2 Inv-loop μ-loop
 loop-again-2 c =
@@ -219,16 +219,16 @@ loop-again-2 c =
     let at-loop = c .before .before .before .before .before .before .before .before .before .before .before .before .before .before .loop in
     let at-loop-test = c .before .before .before .before .before .before .before .before .before .before .before .before .before .loop-test in
     let at-before-byte = c .before .before .before .before .before .before .before .before .before .before .before .before-byte in
-    let at-behind = c .before .before .before .before .before .before .before .before .before .before .before .before .behind in
+    let at-past = c .before .before .before .before .before .before .before .before .before .before .before .before .past in
     let at-bytes-before = c .before .before .before .before .before .before .before .before .before .before .bytes-before in
     let at-may-stand = c .before .before .before .before .before .before .before .before .may-stand in
     let at-if1 = c .before .before .before .before .before .before .before .if1 in
     let at-part = c .before .before .before .before .before .before .part in
     let at-reserved-place = c .before .before .before .before .reserved-place in
     let at-if2 = c .before .before .before .if2 in
-    let at-behind2 = c .before .before .before .before .before .behind2 in
+    let at-past2 = c .before .before .before .before .before .past2 in
     let at-header-fits = c .before .before .header-fits in
-    (omega (arith, word-short (at-args .t .now) (at-loop .at) (at-loop-test .taken) (at-before-byte .result .now) (at-before-byte .ensures ∙ ap (before space) (at-behind .ensures))), turn-header (at-args .t .now) (at-loop .slots) (at-loop .headers) (at-loop .at) (at-loop .inv .1) (at-loop-test .taken) (at-before-byte .result .now) (at-before-byte .ensures ∙ ap (before space) (at-behind .ensures)) (at-bytes-before .result) (at-bytes-before .ensures .0) (at-may-stand .result) (at-may-stand .ensures) (not-false _ (at-if1 .left)) (at-part .result .now) (front-part (at-before-byte .result .now) (at-bytes-before .result) (at-part .result .now) (at-part .ensures)) (at-reserved-place .result) (at-reserved-place .ensures) (at-if2 .left) (at-behind2 .result .now) (at-behind2 .ensures) (at-header-fits .result) (at-header-fits .ensures) (not-false _ (c .before .if4 .left)) (at-part .result .now) (front-part (at-before-byte .result .now) (at-bytes-before .result) (at-part .result .now) (at-part .ensures)) (c .header-text .result) (c .header-text .ensures))
+    (omega (arith, word-short (at-args .t .now) (at-loop .at) (at-loop-test .taken) (at-before-byte .result .now) (at-before-byte .ensures ∙ ap (before space) (at-past .ensures))), turn-header (at-args .t .now) (at-loop .slots) (at-loop .headers) (at-loop .at) (at-loop .inv .1) (at-loop-test .taken) (at-before-byte .result .now) (at-before-byte .ensures ∙ ap (before space) (at-past .ensures)) (at-bytes-before .result) (at-bytes-before .ensures .0) (at-may-stand .result) (at-may-stand .ensures) (not-false _ (at-if1 .left)) (at-part .result .now) (front-part (at-before-byte .result .now) (at-bytes-before .result) (at-part .result .now) (at-part .ensures)) (at-reserved-place .result) (at-reserved-place .ensures) (at-if2 .left) (at-past2 .result .now) (at-past2 .ensures) (at-header-fits .result) (at-header-fits .ensures) (not-false _ (c .before .if4 .left)) (at-part .result .now) (front-part (at-before-byte .result .now) (at-bytes-before .result) (at-part .result .now) (at-part .ensures)) (c .header-text .result) (c .header-text .ensures))
 
 returns-4 : tie.Need-returns-4 Inv-loop μ-loop
 returns-4 c =
@@ -255,8 +255,8 @@ read-places-spec =
     add-start
     add-start-2
     (λ c κs. search needs)
-    add-behind
-    behind-requires-2
+    add-past
+    past-requires-2
     add-at
     add-at-2
     (λ c κs. search needs)
