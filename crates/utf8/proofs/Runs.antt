@@ -5,12 +5,13 @@ use mathlib.Core.Bool.{Bool, true, false}
 use mathlib.Core.List.{List, [], _∷_, _++_}
 use native.Mathlib.Omega.{arith}
 use borrow.Author.Tests.{ltb-true}
-use lib.ListN.{length, getD, take, drop, replicate}
+use lib.ListN.{length, getD, take, drop, replicate, drop-of-length-le}
 use lib.Seq.{drop-length}
-use Rattle.octets.specs.Words.{_and_, _or_, every, some, between, _<?_}
+use Rattle.octets.specs.Words.{_and_, _or_, every, some, _<?_}
 use Rattle.octets.proofs.Tests.{true-not-false, and-left, and-right, and-both, or-left, and-next, and-not-left, inside, below, above, inside-low, inside-high}
 use Rattle.octets.proofs.Lists.{drop-next}
 use Rattle.utf8.specs.Utf8.{Range, _to_, Row, row, holds, tail, rows, run, utf8}
+use Rattle.utf8.specs.Ascii.{ascii}
 use Rattle.utf8.specs.Steps.{Passed}
 
 module _ (s : List ℕ) (i : ℕ) (h : i < length s) where
@@ -28,9 +29,9 @@ pub cut-short : (s : List ℕ) (i : ℕ) (r : Range) (rs : List Range) → i ≡
 unfolding run
 cut-short s i r rs e = rw (e, drop-length s)
 
-pub run-end : (s : List ℕ) (i : ℕ) → i ≡ length s → run [] (drop i s) ≡ true
+pub run-end : (s : List ℕ) (i : ℕ) → length s ≤ i → run [] (drop i s) ≡ true
 unfolding run
-run-end s i e = rw (e, drop-length s)
+run-end s i h = rw (drop-of-length-le s {i = i} h)
 
 -- two ranges have no byte in common
 abbrev apart : Range → Row → Bool
@@ -84,11 +85,11 @@ run-join (r ∷ rs) (b ∷ s) t e f = and-both _ _ (and-left (holds r b) _ e) (r
 run-join [] (b ∷ s) t e f =
     some-more (led b s) (led b (s ++ t)) (λ q g. and-both _ _ (and-left (holds (q .lead) b) _ g) (run-join (q .behind) s t (and-right (holds (q .lead) b) _ g) f)) rows e
 
--- bytes below 0x80 are characters
-pub ascii-run : (s : List ℕ) → every (between 0x00 0x7F) s ≡ true → utf8 s ≡ true
+-- a text of bytes up to 0x7F alone is well-formed
+pub ascii-run : (s : List ℕ) → every ascii s ≡ true → utf8 s ≡ true
 unfolding run
 ascii-run [] e = refl
-ascii-run (b ∷ s) e = or-left _ _ (and-both _ _ (and-left (between 0x00 0x7F b) _ e) (ascii-run s (and-right (between 0x00 0x7F b) _ e)))
+ascii-run (b ∷ s) e = or-left _ _ (and-both _ _ (and-left (ascii b) _ e) (ascii-run s (and-right (ascii b) _ e)))
 
 -- ---- what the code's functions tell one another
 

@@ -1,11 +1,12 @@
 -- What the private functions promise one another; no public promise speaks of it.
-use Prim.Native.Nat.{ℕ, _≤_}
+use Prim.Native.Nat.{ℕ, _+_, _≤_}
 use mathlib.Core.Path.{_≡_}
 use mathlib.Core.Bool.{Bool, false}
 use mathlib.Core.List.{List, []}
-use lib.ListN.{length, drop}
-use Rattle.octets.specs.Words.{if_then_else_, _=?_}
+use lib.ListN.{length, take, drop}
+use Rattle.octets.specs.Words.{if_then_else_, every, _=?_}
 use Rattle.utf8.specs.Utf8.{Range, run}
+use Rattle.utf8.specs.Ascii.{ascii, behindAscii}
 
 -- the text decides from the place `next` on; 0 says that it is not well-formed
 abbrev pub goesOn : List ℕ → ℕ → Bool
@@ -16,3 +17,9 @@ pub record Passed (s : List ℕ) (rs : List Range) (from past next : ℕ) : Type
   pub within : next ≤ length s
   pub onward : (next ≡ 0 → ⊥) → past ≤ next
   pub decides : run rs (drop from s) ≡ goesOn s next
+
+-- steps of `width` bytes of ASCII lead from the place `at` to `next`, and the step there is no such step
+pub record Stepped (s : List ℕ) (at width next : ℕ) : Type 0 where
+  pub within : next ≤ length s
+  pub passed : behindAscii (drop at s) ≡ behindAscii (drop next s)
+  pub stopped : next + width ≤ length s → every ascii (take width (drop next s)) ≡ false

@@ -2,16 +2,18 @@
 ghost use mathlib.Core.Path.{_≡_};
 ghost use Rattle.utf8.specs.Utf8.{utf8};
 
+mod ascii;
 mod characters;
 
 // Whether the bytes are well-formed UTF-8: no overlong form, no surrogate, nothing above U+10FFFF.
+// A run of ASCII is passed as a whole; the rules of longer characters are entered at a byte above 0x7F alone.
 pub fn well_formed(s: &[u8]) -> bool
     ensures { λ r. ⌜ r ≡ utf8 (now (s .entry)) ⌝ }
 {
     let mut i = 0;
     while i < s.len() {
         if s[i] <= 0x7F {
-            i += 1;
+            i = ascii::behind_run(s, i);
         } else {
             let to = characters::character(s, i);
             if to == 0 {

@@ -1,5 +1,5 @@
--- From each place on, the rest decides: a byte below 0x80 is a character, and any other begins one that `character` measures.
-use Prim.Native.Nat.{_-_, _≤_}
+-- From each place on, the rest decides: behind a run of ASCII, and behind any other character, which `character` measures.
+use Prim.Native.Nat.{_-_}
 use mathlib.Core.Path.{_≡_, refl, sym, ap, _∙_}
 use mathlib.Core.List.{[]}
 use native.Mathlib.Omega.{arith}
@@ -9,30 +9,37 @@ use lib.ListN.{length, drop}
 use Rattle.octets.proofs.Tests.{if-no}
 use Rattle.utf8.specs.Utf8.{run}
 use Rattle.utf8.specs.Steps.{goesOn}
-use Rattle.utf8.proofs.Runs.{run-end, row-decides}
+use Rattle.utf8.proofs.Runs.{run-end}
+use Rattle.utf8.proofs.AsciiRuns.{run-onward, rest-decides}
 use Rattle.utf8.proofs.well_formed.Statement.{statement}
 use Rattle.utf8.proofs.well_formed.Tie as tie
 
 abbrev Inv-loop : tie.InvT-loop
-Inv-loop s i₀ i = (i ≤ length s) × (run [] s ≡ run [] (drop i s))
+Inv-loop s i₀ i = run [] s ≡ run [] (drop i s)
 
 abbrev μ-loop : tie.MeasureT-loop
 μ-loop s i₀ i = length s - i
 
 loop-holds : tie.Need-loop-holds Inv-loop μ-loop
-loop-holds c = (search needs, refl)
+loop-holds c = refl
+
+loop-less : tie.Need-loop-less Inv-loop μ-loop
+loop-less c =
+    let at-args = c .before .before .before .before .before .before .args in
+    let at-loop = c .before .before .before .before .loop in
+    omega (arith, run-onward (at-args .s .now) (at-loop .i) (c .behind-run .result) (search needs) (search needs) (c .behind-run .ensures .0) (c .behind-run .ensures .1))
 
 loop-again : tie.Need-loop-again Inv-loop μ-loop
 loop-again c =
-    let at-loop = c .before .before .before .loop in
-    let at-args = c .before .before .before .before .before .args in
-    (search needs, at-loop .inv .1 ∙ row-decides 0 refl refl (at-args .s .now) (at-loop .i) (search needs) (search needs) (search needs))
+    let at-loop = c .before .before .before .before .loop in
+    let at-args = c .before .before .before .before .before .before .args in
+    at-loop .inv ∙ rest-decides (drop (at-loop .i) (at-args .s .now)) ∙ sym (ap (run []) (c .behind-run .ensures .1))
 
 returns : tie.Need-returns Inv-loop μ-loop
 returns c =
     let at-loop = c .before .before .before .before .before .loop in
     let at-args = c .before .before .before .before .before .before .before .args in
-    sym (at-loop .inv .1 ∙ c .before .character .ensures .decides ∙ ap (goesOn (at-args .s .now)) (c .if2 .taken))
+    sym (at-loop .inv ∙ c .before .character .ensures .decides ∙ ap (goesOn (at-args .s .now)) (c .if2 .taken))
 
 loop-less-2 : tie.Need-loop-less-2 Inv-loop μ-loop
 loop-less-2 c = let p = c .before .character .ensures in omega (arith, p .within, p .onward (c .if2 .left))
@@ -41,13 +48,13 @@ loop-again-2 : tie.Need-loop-again-2 Inv-loop μ-loop
 loop-again-2 c =
     let at-character = c .before .character in
     let at-loop = c .before .before .before .before .before .loop in
-    let p = at-character .ensures in (p .within, at-loop .inv .1 ∙ p .decides ∙ if-no _ _ _ (ne-eqb (at-character .result) 0 (c .if2 .left)))
+    let p = at-character .ensures in at-loop .inv ∙ p .decides ∙ if-no _ _ _ (ne-eqb (at-character .result) 0 (c .if2 .left))
 
 returns-2 : tie.Need-returns-2 Inv-loop μ-loop
 returns-2 c =
     let at-loop = c .before .loop in
     let at-args = c .before .before .before .args in
-    sym (at-loop .inv .1 ∙ run-end (at-args .s .now) (at-loop .i) (search needs))
+    sym (at-loop .inv ∙ run-end (at-args .s .now) (at-loop .i) (search needs))
 
 pub well-formed-spec : {M : Type 1} → statement M
 well-formed-spec =
@@ -57,8 +64,8 @@ well-formed-spec =
     μ-loop
     loop-holds
     (λ c. search needs)
-    (λ c. search needs)
-    (λ c. search needs)
+    (λ c κs. search needs)
+    loop-less
     loop-again
     (λ c κs. search needs)
     returns
