@@ -364,6 +364,12 @@ fn hashes(d: &mut Dice, out: &mut Script) {
     };
 }
 
+/// A run of ASCII, often of a length about 8, 16, 32 or 64.
+fn ascii(d: &mut Dice) -> Vec<u8> {
+    let n = if d.chance(30) { d.roll(100) } else { d.pick(&[8, 16, 32, 40, 64, 72]) + d.roll(3) - 1 };
+    (0..n).map(|_| d.roll(128) as u8).collect()
+}
+
 fn text(d: &mut Dice, out: &mut Script) {
     let edges: [&[u8]; 16] = [
         b"\xc0\x80", b"\xc1\xbf", b"\xc2\x80", b"\xdf\xbf", b"\xe0\x9f\xbf", b"\xe0\xa0\x80", b"\xed\x9f\xbf", b"\xed\xa0\x80",
@@ -371,9 +377,10 @@ fn text(d: &mut Dice, out: &mut Script) {
     ];
     let mut s = vec![];
     for _ in 0..d.roll(6) {
-        match d.roll(3) {
+        match d.roll(4) {
             0 => s.extend(*d.pick(&edges)),
             1 => s.extend(char::from_u32(d.roll(0x110000) as u32).unwrap_or('x').to_string().bytes()),
+            2 => s.extend(ascii(d)),
             _ => s.push(d.roll(256) as u8),
         }
     }

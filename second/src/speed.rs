@@ -17,6 +17,8 @@ use std::time::Instant;
 extern "C" {
     fn job_sha1(bytes: *const u8, len: usize) -> u32;
     fn job_crc(bytes: *const u8, len: usize) -> u16;
+    fn job_utf8(bytes: *const u8, len: usize) -> bool;
+    fn job_utf8_bytewise(bytes: *const u8, len: usize) -> bool;
     fn job_line(bytes: *const u8, len: usize) -> u32;
     fn job_reline(bytes: *const u8, len: usize, out: *mut u8, room: usize) -> usize;
     fn job_datagram(bytes: *const u8, len: usize) -> usize;
@@ -62,6 +64,26 @@ fn hashes() {
     }
     let b = filled(512);
     row("CRC-16 of 512 bytes", 5000, || unsafe { job_crc(b.as_ptr(), b.len()) as usize }, || hash::crc16(&b) as usize);
+}
+
+/// The UTF-8 test beside the one that went byte by byte, and beside Rust's own: the texts that are plain ASCII, and those that are not.
+fn texts() {
+    let ascii: Vec<u8> = (0..1 << 16).map(|i| b' ' + (i % 95) as u8).collect();
+    let repeated = |piece: &str| piece.bytes().cycle().take((1 << 16) / piece.len() * piece.len()).collect::<Vec<u8>>();
+    for (name, text, times) in [
+        ("64 KB of ASCII", ascii.clone(), 20),
+        ("a line of 60 bytes of ASCII", ascii[..60].to_vec(), 20000),
+        ("64 KB with a character of two bytes every 16 bytes", repeated("fourteen bytesé"), 20),
+        ("64 KB of characters of three bytes", repeated("€"), 20),
+    ] {
+        let stepped = || unsafe { job_utf8(text.as_ptr(), text.len()) as usize };
+        let bytewise = || unsafe { job_utf8_bytewise(text.as_ptr(), text.len()) as usize };
+        let plain = || std::str::from_utf8(black_box(&text)).is_ok() as usize;
+        assert_eq!((stepped(), bytewise(), plain()), (1, 1, 1), "{name}: the three sides differ");
+        let (s, b) = best(times, stepped, bytewise);
+        let (t, p) = best(times, stepped, plain);
+        println!("| {name} | {:.3} | {:.3} | {:.3} | {:.2} | {:.2} |", s.min(t) * 1e6, b * 1e6, p * 1e6, s / b, t / p);
+    }
 }
 
 /// 512 bytes of an `ihave` line that are short tokens with no value, all of different keys.
@@ -195,6 +217,8 @@ fn main() {
     datagrams();
     table();
     sessions();
+    println!("\n| Text | Well-formed? µs | Byte by byte, µs | from_utf8, µs | Over byte by byte | Over from_utf8 |\n|---|---|---|---|---|---|");
+    texts();
     println!("\n| Call | Stack, KB |\n|---|---|");
     stack::print();
 }

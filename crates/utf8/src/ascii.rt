@@ -6,8 +6,13 @@ ghost use Rattle.octets.specs.Words.{every};
 ghost use Rattle.utf8.specs.Ascii.{ascii, behindAscii};
 ghost use Rattle.utf8.specs.Steps.{Stepped};
 
+// A long step is as wide as two vectors of a processor; a short one leaves fewer than eight bytes to be walked one by one.
+const LONG: usize = 32;
+
+const SHORT: usize = 8;
+
 // Whether the step of `width` bytes at the place `at` is ASCII. Its bytes are gathered and tested once, since a loop that does not leave early runs
-// many bytes wide.
+// many bytes wide; callers name the width as a constant, by which the loop is unrolled.
 fn is_ascii(s: &[u8], at: usize, width: usize) -> bool
     requires { ⌜ at + width ≤ length (now s) ⌝ }
     ensures { λ r. ⌜ r ≡ every ascii (take width (drop at (now (s .entry)))) ⌝ }
@@ -36,13 +41,12 @@ fn behind_steps(s: &[u8], at: usize, width: usize) -> usize
     next // fewer bytes than a step are left
 }
 
-// The place behind the longest run of ASCII from `at` on. Long steps pass most of it; the step of 32 that they end at is passed by steps of 8, and only
-// the last of those, as the last few bytes of a text, byte by byte.
+// The place behind the longest run of ASCII from `at` on: by long steps, then by short ones where no long one goes on, then byte by byte.
 pub(crate) fn behind_run(s: &[u8], at: usize) -> usize
     requires { ⌜ at ≤ length (now s) ⌝ }
     ensures { λ r. ⌜ (r ≤ length (now (s .entry))) × (drop r (now (s .entry)) ≡ behindAscii (drop at (now (s .entry)))) ⌝ }
 {
-    let long = behind_steps(s, at, 32);
-    let short = behind_steps(s, long, 8);
-    behind_steps(s, short, 1)
+    let by_long = behind_steps(s, at, LONG);
+    let by_short = behind_steps(s, by_long, SHORT);
+    behind_steps(s, by_short, 1)
 }
