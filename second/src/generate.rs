@@ -364,7 +364,7 @@ fn hashes(d: &mut Dice, out: &mut Script) {
     };
 }
 
-/// A run of ASCII, often of a length about 8, 16, 32 or 64.
+/// A run of ASCII, often of a length about 8, 16, 32, 40, 64 or 72.
 fn ascii(d: &mut Dice) -> Vec<u8> {
     let n = if d.chance(30) { d.roll(100) } else { d.pick(&[8, 16, 32, 40, 64, 72]) + d.roll(3) - 1 };
     (0..n).map(|_| d.roll(128) as u8).collect()

@@ -82,7 +82,8 @@ fn texts() {
         assert_eq!((stepped(), bytewise(), plain()), (1, 1, 1), "{name}: the three sides differ");
         let (s, b) = best(times, stepped, bytewise);
         let (t, p) = best(times, stepped, plain);
-        println!("| {name} | {:.3} | {:.3} | {:.3} | {:.2} | {:.2} |", s.min(t) * 1e6, b * 1e6, p * 1e6, s / b, t / p);
+        let s = s.min(t);
+        println!("| {name} | {:.1} | {:.1} | {:.1} | {:.2} | {:.2} |", s * 1e9, b * 1e9, p * 1e9, s / b, s / p);
     }
 }
 
@@ -217,7 +218,7 @@ fn main() {
     datagrams();
     table();
     sessions();
-    println!("\n| Text | Well-formed? µs | Byte by byte, µs | from_utf8, µs | Over byte by byte | Over from_utf8 |\n|---|---|---|---|---|---|");
+    println!("\n| Text | Proved, ns | Proved, byte by byte as before, ns | from_utf8, ns | Time over that of before | Time over from_utf8's |\n|---|---|---|---|---|---|");
     texts();
     println!("\n| Call | Stack, KB |\n|---|---|");
     stack::print();

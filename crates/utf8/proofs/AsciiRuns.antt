@@ -13,7 +13,7 @@ use Rattle.octets.proofs.Tests.{if-yes, if-no, and-left, and-right, and-both, a
 use Rattle.octets.proofs.Lists.{drop-next}
 use Rattle.utf8.specs.Utf8.{utf8}
 use Rattle.utf8.specs.Ascii.{ascii, asciiRun, behindAscii}
-use Rattle.utf8.proofs.Runs.{ascii-run, row-decides}
+use Rattle.utf8.proofs.Runs.{ascii-well-formed, row-decides}
 
 -- ---- a step
 
@@ -40,26 +40,38 @@ and-true : (b : Bool) → b and true ≡ b
 and-true true = refl
 and-true false = refl
 
--- the bytes of a step are ASCII exactly if what was gathered of them, and those that are left, are
-abbrev pub gatheredAscii : List ℕ → ℕ → ℕ → ℕ → ℕ → Bool
-gatheredAscii s at width gathered i = (gathered ≤? 0x7F) and every ascii (take (width - i) (drop (at + i) s))
+-- the bytes of a step gathered, bit by bit, with g
+unfoldable pub gather : ℕ → List ℕ → ℕ
+gather g [] = g
+gather g (b ∷ t) = gather (bitOr g b) t
 
--- nothing is gathered yet
-pub gathered-none : (s : List ℕ) (at width : ℕ) → every ascii (take width (drop at s)) ≡ gatheredAscii s at width 0 0
-gathered-none s at width = let e : width - 0 ≡ width = omega arith in let f : at + 0 ≡ at = omega arith in rw (e, f)
+-- the bytes of a step are all up to 0x7F exactly if what was gathered is
+pub gathered-ascii : (g : ℕ) (t : List ℕ) → (gather g t ≤? 0x7F) ≡ (g ≤? 0x7F) and every ascii t
+unfolding gather
+gathered-ascii g [] = sym (and-true (g ≤? 0x7F))
+gathered-ascii g (b ∷ t) = gathered-ascii (bitOr g b) t ∙ rw (or-up-to g b, up-to b) (sym (and-assoc (g ≤? 0x7F) (b ≤? 0x7F) (every ascii t)))
 
--- one byte more
-pub gathered-next : (s : List ℕ) (at width g i : ℕ) → i < width → at + width ≤ length s
-    → gatheredAscii s at width g i ≡ gatheredAscii s at width (bitOr g (getD s (at + i) 0)) (i + 1)
-gathered-next s at width g i h k =
+-- the bytes of a step from its place i on
+abbrev pub left : List ℕ → ℕ → ℕ → ℕ → List ℕ
+left s at width i = take (width - i) (drop (at + i) s)
+
+-- at first all are left
+pub left-all : (s : List ℕ) (at width : ℕ) → left s at width 0 ≡ take width (drop at s)
+left-all s at width = let e : width - 0 ≡ width = omega arith in let f : at + 0 ≡ at = omega arith in rw (e, f)
+
+-- one byte more is gathered
+pub gather-next : (s : List ℕ) (at width g i : ℕ) → i < width → at + width ≤ length s
+    → gather g (left s at width i) ≡ gather (bitOr g (getD s (at + i) 0)) (left s at width (i + 1))
+unfolding gather
+gather-next s at width g i h k =
     let e : width - i ≡ suc (width - (i + 1)) = omega arith in
     let f : at + (i + 1) ≡ at + i + 1 = omega arith in
-    let b = getD s (at + i) 0 in
-    rw (e, f, drop-next s (at + i) 0 (omega arith), or-up-to g b, up-to b) (and-assoc (g ≤? 0x7F) (b ≤? 0x7F) _)
+    rw (e, f, drop-next s (at + i) 0 (omega arith))
 
 -- none is left
-pub gathered-all : (s : List ℕ) (at width g i : ℕ) → width ≤ i → gatheredAscii s at width g i ≡ (g ≤? 0x7F)
-gathered-all s at width g i h = let e : width - i ≡ 0 = omega arith in rw e (and-true (g ≤? 0x7F))
+pub gather-end : (s : List ℕ) (at width g i : ℕ) → width ≤ i → gather g (left s at width i) ≡ g
+unfolding gather
+gather-end s at width g i h = let e : width - i ≡ 0 = omega arith in rw e
 
 -- ---- a run
 
@@ -70,8 +82,8 @@ step-over [] (suc width) e = refl
 step-over (b ∷ t) (suc width) e = if-yes _ _ _ (and-left (ascii b) _ e) ∙ step-over t width (and-right (ascii b) _ e)
 
 -- a step of ASCII leads on within the run
-pub run-step : (s : List ℕ) (at width : ℕ) → every ascii (take width (drop at s)) ≡ true → behindAscii (drop at s) ≡ behindAscii (drop (at + width) s)
-run-step s at width e = step-over (drop at s) width e ∙ ap behindAscii (drop-drop width at s)
+pub ascii-step : (s : List ℕ) (at width : ℕ) → every ascii (take width (drop at s)) ≡ true → behindAscii (drop at s) ≡ behindAscii (drop (at + width) s)
+ascii-step s at width e = step-over (drop at s) width e ∙ ap behindAscii (drop-drop width at s)
 
 stop : (t : List ℕ) → (0 < length t → every ascii (take 1 t) ≡ false) → behindAscii t ≡ t
 unfolding behindAscii
@@ -79,8 +91,8 @@ stop [] h = refl
 stop (b ∷ t) h = if-no _ _ _ (sym (and-true (ascii b)) ∙ h (omega arith))
 
 -- where the next byte is no ASCII, or there is none, the run is over
-pub run-stop : (s : List ℕ) (at : ℕ) → (at + 1 ≤ length s → every ascii (take 1 (drop at s)) ≡ false) → behindAscii (drop at s) ≡ drop at s
-run-stop s at h = stop (drop at s) (λ k. h (omega (arith, k, length-drop at s)))
+pub ascii-stop : (s : List ℕ) (at : ℕ) → (at + 1 ≤ length s → every ascii (take 1 (drop at s)) ≡ false) → behindAscii (drop at s) ≡ drop at s
+ascii-stop s at h = stop (drop at s) (λ k. h (omega (arith, k, length-drop at s)))
 
 rest-shorter : (t : List ℕ) → length (behindAscii t) ≤ length t
 unfolding behindAscii
@@ -92,9 +104,9 @@ rest-shorter (b ∷ t) = go (ascii b) (rest-shorter t)
     go false h = omega arith
 
 -- the run goes beyond a place where ASCII stands
-pub run-onward : (s : List ℕ) (at next : ℕ) → at < length s → getD s at 0 ≤ 0x7F → next ≤ length s → drop next s ≡ behindAscii (drop at s) → at < next
+pub ascii-onward : (s : List ℕ) (at next : ℕ) → at < length s → getD s at 0 ≤ 0x7F → next ≤ length s → drop next s ≡ behindAscii (drop at s) → at < next
 unfolding behindAscii
-run-onward s at next h k w e =
+ascii-onward s at next h k w e =
     let b : ascii (getD s at 0) ≡ true = inside 0 0x7F _ (omega arith) k in
     let f : behindAscii (drop at s) ≡ behindAscii (drop (at + 1) s) = rw (drop-next s at 0 h) (if-yes _ _ _ b) in
     omega (arith, rest-shorter (drop (at + 1) s), ap length (e ∙ f), length-drop next s, length-drop (at + 1) s)
@@ -102,30 +114,30 @@ run-onward s at next h k w e =
 -- ---- what a run means for a text
 
 -- a text is its run of ASCII and the rest
-pub run-and-rest : (s : List ℕ) → asciiRun s ++ behindAscii s ≡ s
+pub ascii-and-rest : (s : List ℕ) → asciiRun s ++ behindAscii s ≡ s
 unfolding asciiRun behindAscii
-run-and-rest [] = refl
-run-and-rest (b ∷ s) = go (ascii b) (run-and-rest s)
+ascii-and-rest [] = refl
+ascii-and-rest (b ∷ s) = go (ascii b) (ascii-and-rest s)
   where
     go : (p : Bool) → asciiRun s ++ behindAscii s ≡ s → (if p then b ∷ asciiRun s else []) ++ (if p then behindAscii s else b ∷ s) ≡ b ∷ s
     go true h = ap (λ t. b ∷ t) h
     go false h = refl
 
 -- all bytes of the run are ASCII
-pub run-ascii : (s : List ℕ) → every ascii (asciiRun s) ≡ true
+pub ascii-all : (s : List ℕ) → every ascii (asciiRun s) ≡ true
 unfolding asciiRun
-run-ascii [] = refl
-run-ascii (b ∷ s) = go (ascii b) refl (run-ascii s)
+ascii-all [] = refl
+ascii-all (b ∷ s) = go (ascii b) refl (ascii-all s)
   where
     go : (p : Bool) → ascii b ≡ p → every ascii (asciiRun s) ≡ true → every ascii (if p then b ∷ asciiRun s else []) ≡ true
     go true e h = and-both _ _ e h
     go false e h = refl
 
 -- and it is taken as long as it goes: the byte behind it is none
-pub run-longest : (s : List ℕ) (b : ℕ) (t : List ℕ) → behindAscii s ≡ b ∷ t → ascii b ≡ false
+pub ascii-longest : (s : List ℕ) (b : ℕ) (t : List ℕ) → behindAscii s ≡ b ∷ t → ascii b ≡ false
 unfolding behindAscii
-run-longest [] b t e = absurd (omega (arith, ap length e))
-run-longest (x ∷ s) b t e = go (ascii x) refl (λ h. run-longest s b t h) e
+ascii-longest [] b t e = absurd (omega (arith, ap length e))
+ascii-longest (x ∷ s) b t e = go (ascii x) refl (λ h. ascii-longest s b t h) e
   where
     go : (p : Bool) → ascii x ≡ p → (behindAscii s ≡ b ∷ t → ascii b ≡ false) → (if p then behindAscii s else x ∷ s) ≡ b ∷ t → ascii b ≡ false
     go true f k e = k e
@@ -141,6 +153,6 @@ rest-decides (b ∷ s) = go (ascii b) refl (rest-decides s)
     go true e h = row-decides 0 refl refl (b ∷ s) 0 (omega arith) (omega arith) (inside-high 0 0x7F b e) ∙ h
     go false e h = refl
 
--- the answer for a text is that of its run of ASCII, which is well-formed by itself (`ascii-run`), and of its rest
-pub by-run-and-rest : (s : List ℕ) → utf8 s ≡ utf8 (asciiRun s) and utf8 (behindAscii s)
-by-run-and-rest s = rest-decides s ∙ sym (and-next _ _ (ascii-run (asciiRun s) (run-ascii s)))
+-- the answer for a text is that of its run of ASCII, which is well-formed by itself (`ascii-well-formed`), and of its rest
+pub by-ascii-and-rest : (s : List ℕ) → utf8 s ≡ utf8 (asciiRun s) and utf8 (behindAscii s)
+by-ascii-and-rest s = rest-decides s ∙ sym (and-next _ _ (ascii-well-formed (asciiRun s) (ascii-all s)))

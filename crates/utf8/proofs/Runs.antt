@@ -86,10 +86,10 @@ run-join [] (b ∷ s) t e f =
     some-more (led b s) (led b (s ++ t)) (λ q g. and-both _ _ (and-left (holds (q .lead) b) _ g) (run-join (q .behind) s t (and-right (holds (q .lead) b) _ g) f)) rows e
 
 -- a text of bytes up to 0x7F alone is well-formed
-pub ascii-run : (s : List ℕ) → every ascii s ≡ true → utf8 s ≡ true
+pub ascii-well-formed : (s : List ℕ) → every ascii s ≡ true → utf8 s ≡ true
 unfolding run
-ascii-run [] e = refl
-ascii-run (b ∷ s) e = or-left _ _ (and-both _ _ (and-left (ascii b) _ e) (ascii-run s (and-right (ascii b) _ e)))
+ascii-well-formed [] e = refl
+ascii-well-formed (b ∷ s) e = or-left _ _ (and-both _ _ (and-left (ascii b) _ e) (ascii-well-formed s (and-right (ascii b) _ e)))
 
 -- ---- what the code's functions tell one another
 

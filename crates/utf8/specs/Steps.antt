@@ -18,7 +18,8 @@ pub record Passed (s : List ℕ) (rs : List Range) (from past next : ℕ) : Type
   pub onward : (next ≡ 0 → ⊥) → past ≤ next
   pub decides : run rs (drop from s) ≡ goesOn s next
 
--- steps of `width` bytes of ASCII lead from the place `at` to `next`, and the step there is no such step
+-- the run of ASCII from the place `at` on and that from `next` on end at one place, and the step of `width` bytes at `next`, if a whole one is left, is
+-- not ASCII
 pub record Stepped (s : List ℕ) (at width next : ℕ) : Type 0 where
   pub within : next ≤ length s
   pub passed : behindAscii (drop at s) ≡ behindAscii (drop next s)

@@ -6,13 +6,13 @@ ghost use Rattle.octets.specs.Words.{every};
 ghost use Rattle.utf8.specs.Ascii.{ascii, behindAscii};
 ghost use Rattle.utf8.specs.Steps.{Stepped};
 
-// A long step is as wide as two vectors of a processor; a short one leaves fewer than eight bytes to be walked one by one.
+// A long step is as wide as two vectors of 16 bytes; a short one leaves fewer than eight bytes to be walked one by one.
 const LONG: usize = 32;
 
 const SHORT: usize = 8;
 
 // Whether the step of `width` bytes at the place `at` is ASCII. Its bytes are gathered and tested once, since a loop that does not leave early runs
-// many bytes wide; callers name the width as a constant, by which the loop is unrolled.
+// many bytes wide.
 fn is_ascii(s: &[u8], at: usize, width: usize) -> bool
     requires { ⌜ at + width ≤ length (now s) ⌝ }
     ensures { λ r. ⌜ r ≡ every ascii (take width (drop at (now (s .entry)))) ⌝ }
@@ -41,7 +41,8 @@ fn behind_steps(s: &[u8], at: usize, width: usize) -> usize
     next // fewer bytes than a step are left
 }
 
-// The place behind the longest run of ASCII from `at` on: by long steps, then by short ones where no long one goes on, then byte by byte.
+// The place behind the longest run of ASCII from `at` on: by long steps, then by short ones where no long one goes on, then byte by byte. The widths are
+// constants here, so that the compiler can lay out the bytes of a step side by side.
 pub(crate) fn behind_run(s: &[u8], at: usize) -> usize
     requires { ⌜ at ≤ length (now s) ⌝ }
     ensures { λ r. ⌜ (r ≤ length (now (s .entry))) × (drop r (now (s .entry)) ≡ behindAscii (drop at (now (s .entry)))) ⌝ }

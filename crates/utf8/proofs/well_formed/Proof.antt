@@ -10,7 +10,7 @@ use Rattle.octets.proofs.Tests.{if-no}
 use Rattle.utf8.specs.Utf8.{run}
 use Rattle.utf8.specs.Steps.{goesOn}
 use Rattle.utf8.proofs.Runs.{run-end}
-use Rattle.utf8.proofs.AsciiRuns.{run-onward, rest-decides}
+use Rattle.utf8.proofs.AsciiRuns.{ascii-onward, rest-decides}
 use Rattle.utf8.proofs.well_formed.Statement.{statement}
 use Rattle.utf8.proofs.well_formed.Tie as tie
 
@@ -27,7 +27,7 @@ loop-less : tie.Need-loop-less Inv-loop μ-loop
 loop-less c =
     let at-args = c .before .before .before .before .before .before .args in
     let at-loop = c .before .before .before .before .loop in
-    omega (arith, run-onward (at-args .s .now) (at-loop .i) (c .behind-run .result) (search needs) (search needs) (c .behind-run .ensures .0) (c .behind-run .ensures .1))
+    omega (arith, ascii-onward (at-args .s .now) (at-loop .i) (c .behind-run .result) (search needs) (search needs) (c .behind-run .ensures .0) (c .behind-run .ensures .1))
 
 loop-again : tie.Need-loop-again Inv-loop μ-loop
 loop-again c =

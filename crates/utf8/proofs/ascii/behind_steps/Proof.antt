@@ -1,13 +1,12 @@
--- Each step of ASCII leads on within the run.
+-- Each step leads on within the ASCII.
 use Prim.Native.Nat.{_-_, _≤_}
 use mathlib.Core.Path.{_≡_, refl, sym, _∙_}
 use native.Mathlib.Omega.{arith}
 use borrow.Author.Needs.{needs}
 use borrow.Author.Tests.{not-true, not-false}
 use lib.ListN.{length, drop}
-use Rattle.utf8.specs.Utf8.{run}
 use Rattle.utf8.specs.Ascii.{behindAscii}
-use Rattle.utf8.proofs.AsciiRuns.{run-step}
+use Rattle.utf8.proofs.AsciiRuns.{ascii-step}
 use Rattle.utf8.proofs.ascii.behind_steps.Statement.{statement}
 use Rattle.utf8.proofs.ascii.behind_steps.Tie as tie
 
@@ -29,7 +28,7 @@ loop-again : tie.Need-loop-again Inv-loop μ-loop
 loop-again c =
     let at-loop = c .before .before .before .loop in
     let at-args = c .before .before .before .before .before .args in
-    (search needs, at-loop .inv .1 ∙ run-step (at-args .s .now) (at-loop .next) (at-args .width) (sym (c .before .is-ascii .ensures) ∙ not-false _ (c .if1 .left)))
+    (search needs, at-loop .inv .1 ∙ ascii-step (at-args .s .now) (at-loop .next) (at-args .width) (sym (c .before .is-ascii .ensures) ∙ not-false _ (c .if1 .left)))
 
 returns-2 : tie.Need-returns-2 Inv-loop μ-loop
 returns-2 c = record { within = search needs; passed = c .before .loop .inv .1; stopped = λ h. absurd (omega (arith, h, c .loop-test .left)) }
