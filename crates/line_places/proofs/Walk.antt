@@ -10,7 +10,7 @@ use borrow.Author.Tests.{ltb-true, ltb-false, eqb-true, eqb-false}
 use Rattle.octets.specs.Words.{if_then_else_, _and_, _or_, no, _=?_, _<?_, every, some}
 use Rattle.octets.specs.Bytes.{same}
 use Rattle.octets.proofs.Lists.{same-eq, same-refl}
-use Rattle.octets.proofs.Tests.{if-yes, if-no, and-both, and-next, and-not-left, and-not-right, no-true, no-false, true-not-false}
+use Rattle.octets.proofs.Tests.{if-yes, if-no, and-both, and-next, and-true, and-not-left, and-not-right, no-true, no-false, true-not-false}
 use Rattle.names.specs.Reserved.{reserved, reservedKeys, keyPlace, keyChk}
 use Rattle.names.proofs.Reserved.{reserved-place, key-at, place-back, counts}
 use Rattle.headers.specs.Keys.{allDiffer}
@@ -79,10 +79,6 @@ walk-start all none h is-none is-h = rw (is-none, is-h) (record {
 })
 
 -- ---- a word more
-
-and-true : (a : Bool) → a and true ≡ a
-and-true true = refl
-and-true false = refl
 
 swap : (a b c d : Bool) → (a and no b) and (c and no d) ≡ (a and c) and no (b or d)
 swap false b c d = refl

@@ -36,6 +36,14 @@ and-not-right false b e = refl
 pub and-next : (a b : Bool) → a ≡ true → a and b ≡ b
 and-next a b e = rw e
 
+pub and-true : (a : Bool) → a and true ≡ a
+and-true true = refl
+and-true false = refl
+
+pub and-assoc : (a b c : Bool) → a and (b and c) ≡ (a and b) and c
+and-assoc true b c = refl
+and-assoc false b c = refl
+
 pub or-left : (a b : Bool) → a ≡ true → a or b ≡ true
 or-left a b e = rw e
 

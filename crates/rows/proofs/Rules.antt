@@ -8,7 +8,7 @@ use lib.ListN.{length, drop, replicate}
 use lib.Seq.{take-append-seam, drop-append-seam}
 use borrow.Author.Tests.{eq-eqb, le-leb, leb-true, leb-false, lt-ltb, ltb-true, ltb-false, eqb-true, eqb-false}
 use Rattle.octets.specs.Words.{if_then_else_, _and_, _or_, every, between, _<?_, _≤?_, _=?_}
-use Rattle.octets.proofs.Tests.{and-left, and-right, and-both, and-not-left, and-not-right, and-next, inside, inside-low, inside-high, true-not-false}
+use Rattle.octets.proofs.Tests.{and-left, and-right, and-both, and-not-left, and-not-right, and-next, and-true, inside, inside-low, inside-high, true-not-false}
 use Rattle.places.specs.declared.Held.{Held}
 use Rattle.rows.specs.declared.Row.{Row}
 use Rattle.rows.specs.Stream.{Stream, word, words, ascending, above, holds, gapOpen, ordered, timed, keeps}
@@ -59,10 +59,6 @@ not-bare l c b k e = and-not-right l _ (and-not-right c _ (and-not-left _ _ e))
 pub not-ascending : (l c b w a v t : Bool) → a ≡ false → l and c and b and (w and a and v) and t ≡ false
 not-ascending l c b w a v t e = and-not-right l _ (and-not-right c _ (and-not-right b _ (and-not-left _ _ (and-not-right w _ (and-not-left _ _ e)))))
 
-and-true : (a : Bool) → a ≡ a and true
-and-true true = refl
-and-true false = refl
-
 -- where they are as they should be, the numbers decide
 pub numbers-left : (l c b w a v v′ s g z : Bool) → l ≡ true → b ≡ true → a ≡ true → z ≡ true → (c ≡ true → v′ ≡ v)
     → c and (w and v′) and s and g ≡ l and c and b and (w and a and v) and (s and g) and z
@@ -70,7 +66,7 @@ numbers-left l c b w a v v′ s g z p q r y e = rw (p, q, r, y) (go c e)
   where
     go : (c : Bool) → (c ≡ true → v′ ≡ v) → c and (w and v′) and s and g ≡ c and (w and v) and (s and g) and true
     go false e = refl
-    go true e = ap (λ (x : Bool). (w and x) and s and g) (e refl) ∙ ap (λ (x : Bool). (w and v) and x) (and-true (s and g))
+    go true e = ap (λ (x : Bool). (w and x) and s and g) (e refl) ∙ ap (λ (x : Bool). (w and v) and x) (sym (and-true (s and g)))
 
 -- ---- a row that keeps them
 

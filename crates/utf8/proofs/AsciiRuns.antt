@@ -9,7 +9,7 @@ use lib.ListN.{length, getD, take, drop, length-drop}
 use lib.Seq.{drop-drop}
 use borrow.Author.Tests.{le-leb, lt-leb, leb-true, leb-false}
 use Rattle.octets.specs.Words.{if_then_else_, _and_, every, _≤?_}
-use Rattle.octets.proofs.Tests.{if-yes, if-no, and-left, and-right, and-both, and-next, inside, inside-high}
+use Rattle.octets.proofs.Tests.{if-yes, if-no, and-left, and-right, and-both, and-next, and-true, and-assoc, inside-high}
 use Rattle.octets.proofs.Lists.{drop-next}
 use Rattle.utf8.specs.Utf8.{utf8}
 use Rattle.utf8.specs.Ascii.{ascii, asciiRun, behindAscii}
@@ -32,44 +32,36 @@ or-up-to a b = go (a ≤? 0x7F) (b ≤? 0x7F) refl refl
     go true false e f = lt-leb (bitOr a b) 0x7F (omega (arith, leb-false b 0x7F f, or-add-and a b, and-le-l a b))
     go false q e f = lt-leb (bitOr a b) 0x7F (omega (arith, leb-false a 0x7F e, or-add-and a b, and-le-r a b))
 
-and-assoc : (a b c : Bool) → a and (b and c) ≡ (a and b) and c
-and-assoc true b c = refl
-and-assoc false b c = refl
-
-and-true : (b : Bool) → b and true ≡ b
-and-true true = refl
-and-true false = refl
-
 -- the bytes of a step gathered, bit by bit, with g
 unfoldable pub gather : ℕ → List ℕ → ℕ
 gather g [] = g
 gather g (b ∷ t) = gather (bitOr g b) t
 
--- the bytes of a step are all up to 0x7F exactly if what was gathered is
+-- what was gathered is up to 0x7F exactly if g and all the bytes are: begun with 0, exactly if all the bytes are
 pub gathered-ascii : (g : ℕ) (t : List ℕ) → (gather g t ≤? 0x7F) ≡ (g ≤? 0x7F) and every ascii t
 unfolding gather
 gathered-ascii g [] = sym (and-true (g ≤? 0x7F))
 gathered-ascii g (b ∷ t) = gathered-ascii (bitOr g b) t ∙ rw (or-up-to g b, up-to b) (sym (and-assoc (g ≤? 0x7F) (b ≤? 0x7F) (every ascii t)))
 
 -- the bytes of a step from its place i on
-abbrev pub left : List ℕ → ℕ → ℕ → ℕ → List ℕ
-left s at width i = take (width - i) (drop (at + i) s)
+abbrev pub ahead : List ℕ → ℕ → ℕ → ℕ → List ℕ
+ahead s at width i = take (width - i) (drop (at + i) s)
 
--- at first all are left
-pub left-all : (s : List ℕ) (at width : ℕ) → left s at width 0 ≡ take width (drop at s)
-left-all s at width = let e : width - 0 ≡ width = omega arith in let f : at + 0 ≡ at = omega arith in rw (e, f)
+-- at first all are ahead
+pub ahead-all : (s : List ℕ) (at width : ℕ) → ahead s at width 0 ≡ take width (drop at s)
+ahead-all s at width = let e : width - 0 ≡ width = omega arith in let f : at + 0 ≡ at = omega arith in rw (e, f)
 
 -- one byte more is gathered
 pub gather-next : (s : List ℕ) (at width g i : ℕ) → i < width → at + width ≤ length s
-    → gather g (left s at width i) ≡ gather (bitOr g (getD s (at + i) 0)) (left s at width (i + 1))
+    → gather g (ahead s at width i) ≡ gather (bitOr g (getD s (at + i) 0)) (ahead s at width (i + 1))
 unfolding gather
 gather-next s at width g i h k =
     let e : width - i ≡ suc (width - (i + 1)) = omega arith in
     let f : at + (i + 1) ≡ at + i + 1 = omega arith in
     rw (e, f, drop-next s (at + i) 0 (omega arith))
 
--- none is left
-pub gather-end : (s : List ℕ) (at width g i : ℕ) → width ≤ i → gather g (left s at width i) ≡ g
+-- none is ahead
+pub gather-end : (s : List ℕ) (at width g i : ℕ) → width ≤ i → gather g (ahead s at width i) ≡ g
 unfolding gather
 gather-end s at width g i h = let e : width - i ≡ 0 = omega arith in rw e
 
@@ -94,23 +86,6 @@ stop (b ∷ t) h = if-no _ _ _ (sym (and-true (ascii b)) ∙ h (omega arith))
 pub ascii-stop : (s : List ℕ) (at : ℕ) → (at + 1 ≤ length s → every ascii (take 1 (drop at s)) ≡ false) → behindAscii (drop at s) ≡ drop at s
 ascii-stop s at h = stop (drop at s) (λ k. h (omega (arith, k, length-drop at s)))
 
-rest-shorter : (t : List ℕ) → length (behindAscii t) ≤ length t
-unfolding behindAscii
-rest-shorter [] = omega arith
-rest-shorter (b ∷ t) = go (ascii b) (rest-shorter t)
-  where
-    go : (p : Bool) → length (behindAscii t) ≤ length t → length (if p then behindAscii t else b ∷ t) ≤ suc (length t)
-    go true h = omega (arith, h)
-    go false h = omega arith
-
--- the run goes beyond a place where ASCII stands
-pub ascii-onward : (s : List ℕ) (at next : ℕ) → at < length s → getD s at 0 ≤ 0x7F → next ≤ length s → drop next s ≡ behindAscii (drop at s) → at < next
-unfolding behindAscii
-ascii-onward s at next h k w e =
-    let b : ascii (getD s at 0) ≡ true = inside 0 0x7F _ (omega arith) k in
-    let f : behindAscii (drop at s) ≡ behindAscii (drop (at + 1) s) = rw (drop-next s at 0 h) (if-yes _ _ _ b) in
-    omega (arith, rest-shorter (drop (at + 1) s), ap length (e ∙ f), length-drop next s, length-drop (at + 1) s)
-
 -- ---- what a run means for a text
 
 -- a text is its run of ASCII and the rest
@@ -133,7 +108,7 @@ ascii-all (b ∷ s) = go (ascii b) refl (ascii-all s)
     go true e h = and-both _ _ e h
     go false e h = refl
 
--- and it is taken as long as it goes: the byte behind it is none
+-- and it is taken as long as it goes: a byte behind it is not ASCII
 pub ascii-longest : (s : List ℕ) (b : ℕ) (t : List ℕ) → behindAscii s ≡ b ∷ t → ascii b ≡ false
 unfolding behindAscii
 ascii-longest [] b t e = absurd (omega (arith, ap length e))

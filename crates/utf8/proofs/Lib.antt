@@ -2,4 +2,5 @@
 pub mod Runs
 pub mod AsciiRuns
 pub mod Unique
+pub mod Answers
 pub mod Examples

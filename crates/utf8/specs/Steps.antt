@@ -18,9 +18,10 @@ pub record Passed (s : List ℕ) (rs : List Range) (from past next : ℕ) : Type
   pub onward : (next ≡ 0 → ⊥) → past ≤ next
   pub decides : run rs (drop from s) ≡ goesOn s next
 
--- the run of ASCII from the place `at` on and that from `next` on end at one place, and the step of `width` bytes at `next`, if a whole one is left, is
--- not ASCII
+-- from the place `at` on to `next`, within the text: the run of ASCII from either place on ends at one place, and the step of `width` bytes at `next`,
+-- if a whole one is left, is not ASCII
 pub record Stepped (s : List ℕ) (at width next : ℕ) : Type 0 where
+  pub onward : at ≤ next
   pub within : next ≤ length s
   pub passed : behindAscii (drop at s) ≡ behindAscii (drop next s)
   pub stopped : next + width ≤ length s → every ascii (take width (drop next s)) ≡ false

@@ -45,7 +45,7 @@ fn behind_steps(s: &[u8], at: usize, width: usize) -> usize
 // constants here, so that the compiler can lay out the bytes of a step side by side.
 pub(crate) fn behind_run(s: &[u8], at: usize) -> usize
     requires { ⌜ at ≤ length (now s) ⌝ }
-    ensures { λ r. ⌜ (r ≤ length (now (s .entry))) × (drop r (now (s .entry)) ≡ behindAscii (drop at (now (s .entry)))) ⌝ }
+    ensures { λ r. ⌜ (at ≤ r) × (r ≤ length (now (s .entry))) × (drop r (now (s .entry)) ≡ behindAscii (drop at (now (s .entry)))) ⌝ }
 {
     let by_long = behind_steps(s, at, LONG);
     let by_short = behind_steps(s, by_long, SHORT);

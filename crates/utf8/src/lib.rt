@@ -13,7 +13,7 @@ pub fn well_formed(s: &[u8]) -> bool
     let mut i = 0;
     while i < s.len() {
         if s[i] <= 0x7F {
-            i = ascii::behind_run(s, i);
+            i = ascii::behind_run(s, i + 1);
         } else {
             let to = characters::character(s, i);
             if to == 0 {

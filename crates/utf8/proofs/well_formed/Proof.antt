@@ -1,5 +1,5 @@
 -- From each place on, the rest decides: behind a run of ASCII, and behind any other character, which `character` measures.
-use Prim.Native.Nat.{_-_}
+use Prim.Native.Nat.{_+_, _-_}
 use mathlib.Core.Path.{_≡_, refl, sym, ap, _∙_}
 use mathlib.Core.List.{[]}
 use native.Mathlib.Omega.{arith}
@@ -9,8 +9,8 @@ use lib.ListN.{length, drop}
 use Rattle.octets.proofs.Tests.{if-no}
 use Rattle.utf8.specs.Utf8.{run}
 use Rattle.utf8.specs.Steps.{goesOn}
-use Rattle.utf8.proofs.Runs.{run-end}
-use Rattle.utf8.proofs.AsciiRuns.{ascii-onward, rest-decides}
+use Rattle.utf8.proofs.Runs.{run-end, row-decides}
+use Rattle.utf8.proofs.AsciiRuns.{rest-decides}
 use Rattle.utf8.proofs.well_formed.Statement.{statement}
 use Rattle.utf8.proofs.well_formed.Tie as tie
 
@@ -24,16 +24,14 @@ loop-holds : tie.Need-loop-holds Inv-loop μ-loop
 loop-holds c = refl
 
 loop-less : tie.Need-loop-less Inv-loop μ-loop
-loop-less c =
-    let at-args = c .before .before .before .before .before .before .args in
-    let at-loop = c .before .before .before .before .loop in
-    omega (arith, ascii-onward (at-args .s .now) (at-loop .i) (c .behind-run .result) (search needs) (search needs) (c .behind-run .ensures .0) (c .behind-run .ensures .1))
+loop-less c = omega (arith, c .behind-run .ensures .0)
 
 loop-again : tie.Need-loop-again Inv-loop μ-loop
 loop-again c =
     let at-loop = c .before .before .before .before .loop in
     let at-args = c .before .before .before .before .before .before .args in
-    at-loop .inv ∙ rest-decides (drop (at-loop .i) (at-args .s .now)) ∙ sym (ap (run []) (c .behind-run .ensures .1))
+    let next = at-loop .i + 1 in
+    at-loop .inv ∙ row-decides 0 refl refl (at-args .s .now) (at-loop .i) (search needs) (search needs) (search needs) ∙ rest-decides (drop next (at-args .s .now)) ∙ sym (ap (run []) (c .behind-run .ensures .2))
 
 returns : tie.Need-returns Inv-loop μ-loop
 returns c =
@@ -63,6 +61,7 @@ well-formed-spec =
     Inv-loop
     μ-loop
     loop-holds
+    (λ c. search needs)
     (λ c. search needs)
     (λ c κs. search needs)
     loop-less

@@ -4,18 +4,18 @@ use mathlib.Core.Path.{_≡_, sym, ap, _∙_}
 use borrow.Author.Needs.{needs}
 use lib.ListN.{take, drop}
 use Rattle.octets.specs.Words.{_≤?_}
-use Rattle.utf8.proofs.AsciiRuns.{gather, left, gathered-ascii, left-all, gather-next, gather-end}
+use Rattle.utf8.proofs.AsciiRuns.{gather, ahead, gathered-ascii, ahead-all, gather-next, gather-end}
 use Rattle.utf8.proofs.ascii.is_ascii.Statement.{statement}
 use Rattle.utf8.proofs.ascii.is_ascii.Tie as tie
 
 abbrev Inv-loop : tie.InvT-loop
-Inv-loop s at width gathered₀ i₀ gathered i = gather 0 (take width (drop at s)) ≡ gather gathered (left s at width i)
+Inv-loop s at width gathered₀ i₀ gathered i = gather 0 (take width (drop at s)) ≡ gather gathered (ahead s at width i)
 
 abbrev μ-loop : tie.MeasureT-loop
 μ-loop s at width gathered₀ i₀ gathered i = width - i
 
 loop-holds : tie.Need-loop-holds Inv-loop μ-loop
-loop-holds c = ap (gather 0) (sym (left-all (c .args .s .now) (c .args .at) (c .args .width)))
+loop-holds c = ap (gather 0) (sym (ahead-all (c .args .s .now) (c .args .at) (c .args .width)))
 
 loop-again : tie.Need-loop-again Inv-loop μ-loop
 loop-again c =
