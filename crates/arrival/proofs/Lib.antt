@@ -1,0 +1,8 @@
+-- Document 02, W14: the theorems.
+pub mod Rising
+pub mod OneRow
+pub mod Workshops
+pub mod Sentence
+pub mod EveryCount
+pub mod Nought
+pub mod Worked
