@@ -336,6 +336,7 @@ pub fn script(seed: u64, lines: usize, area: &str) -> Option<Vec<u8>> {
         "datagrams" => datagrams,
         "sessions" => sessions,
         "streams" => streams,
+        "arrivals" => arrivals,
         "images" => images,
         "fragments" => fragments,
         "grammar" => grammar,
@@ -498,6 +499,64 @@ fn streams(d: &mut Dice, out: &mut Script) {
         }
     }
     stream_call(d, out);
+}
+
+/// One workshop's arrival of the messages 1 to n of a stream: what is still to come, what the row holds, and what was given out.
+struct Arrival {
+    stream: &'static str,
+    to_come: Vec<usize>,
+    held: Vec<usize>,
+    given: Vec<String>,
+    ended: bool,
+}
+
+impl Arrival {
+    fn new(stream: &'static str, n: usize) -> Self {
+        Arrival { stream, to_come: (1..=n).collect(), held: vec![], given: vec![], ended: false }
+    }
+    /// An offer that the row has room for, in any order, or a take; once all has come, takes until one gives nothing.
+    fn go_on(&mut self, d: &mut Dice, out: &mut Script) {
+        let time = d.time().to_string();
+        let next = self.given.len() + 1;
+        let full = self.held.iter().filter(|&&n| n > next).count() == 15;
+        let may_offer = if full { self.to_come.first() == Some(&next) } else { !self.to_come.is_empty() };
+        if may_offer && d.chance(60) {
+            let at = if full { 0 } else { d.roll(self.to_come.len().min(20)) };
+            let n = self.to_come.remove(at);
+            let answer = out.say(&["offer", "G0ORIG", self.stream, &n.to_string(), "0", &(1000 + n).to_string(), &time]);
+            assert_eq!(answer, "accepted", "message {n} of {} after {:?}", self.stream, self.given);
+            self.held.push(n);
+            return;
+        }
+        let answer = out.say(&["take", "G0ORIG", self.stream, &time]);
+        if answer.starts_with("given") {
+            self.held.retain(|&n| n != next);
+            self.given.push(answer);
+        } else {
+            self.ended = self.to_come.is_empty();
+        }
+    }
+}
+
+/// Document 02, W14: two workshops hear the messages 1 to n of one stream, each in an order of its own, with takes strewn in, calls on another
+/// stream between, and at the end takes until nothing comes. The script is made only if both lists are 1 to n in order.
+fn arrivals(d: &mut Dice, out: &mut Script) {
+    out.say(&["load", "SE%00"]);
+    let n = 1 + d.roll(40);
+    let mut workshops = [Arrival::new("here", n), Arrival::new("there", n)];
+    while workshops.iter().any(|w| !w.ended) {
+        let one = d.roll(2);
+        if !workshops[one].ended {
+            workshops[one].go_on(d, out);
+        }
+        if d.chance(10) {
+            stream_call(d, out);
+        }
+    }
+    let in_order: Vec<String> = (1..=n).map(|i| format!("given {i} {}", 1000 + i)).collect();
+    for w in workshops {
+        assert_eq!(w.given, in_order, "what {} gave out", w.stream);
+    }
 }
 
 /// A row's record, with rules broken at times.

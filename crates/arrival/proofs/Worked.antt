@@ -24,9 +24,9 @@ use Rattle.history.specs.History.{Sent, takenIn, count, countHeld, numbered, In
 use Rattle.history.specs.Chain.{Call, small, mine, Chain, begins, asks}
 use Rattle.history.specs.Cards.{originator, chat}
 use Rattle.arrival.specs.Arrival.{Exactly, GaveNothing, inOrder}
-use Rattle.arrival.specs.Workshops.{Workshop, list, offered, AllAllowed, AsWritten}
+use Rattle.arrival.specs.Workshops.{Workshop, AllAllowed, AsWritten}
 use Rattle.arrival.proofs.Rising.{of-order}
-use Rattle.arrival.specs.Worked.{Stand, call, calls, before, after, answers, key, out, slip, otherSlip, message, forward, mixed, late, forced, full, relabelled, unasked, timed, messages, straight, AllOffers, Differ}
+use Rattle.arrival.specs.Worked.{Stand, call, calls, before, after, key, out, slip, otherSlip, message, forward, mixed, late, forced, full, relabelled, unasked, timed, relabel, messages, straight, Comes, AllOffers, NoLastTake, Differs}
 
 -- ---- the calls of an arrival are a chain
 
@@ -50,96 +50,72 @@ as-many n slip l e t = record { numbers = λ i. e i ∙ of-order slip n i; slips
 
 -- ---- by computation
 
--- n and the numbers after it given out, `count` of them, then what follows
-abbrev givenFrom : (n count : ℕ) → List Answer → List Answer
-givenFrom n zero rest = rest
-givenFrom n (suc count) rest = given n (slip n) ∷ givenFrom (n + 1) count rest
+abbrev Ends : List Call → Type 0
+Ends l = GaveNothing (mine key (after l .log))
 
+-- `count` offers accepted; the numbers from n on, `count` of them, given out; each accepted and given out, and a take that gives nothing
 abbrev acceptedTimes : (count : ℕ) → List Answer → List Answer
 acceptedTimes zero rest = rest
 acceptedTimes (suc count) rest = accepted ∷ acceptedTimes count rest
 
+abbrev givenFrom : (n count : ℕ) → List Answer → List Answer
+givenFrom n zero rest = rest
+givenFrom n (suc count) rest = given n (slip n) ∷ givenFrom (n + 1) count rest
+
+abbrev inTurn : (n count : ℕ) → List Answer
+inTurn n zero = nothing ∷ []
+inTurn n (suc count) = accepted ∷ given n (slip n) ∷ inTurn (n + 1) count
+
+abbrev strewn : List Held
+strewn = message 4 ∷ message 2 ∷ message 1 ∷ message 3 ∷ []
+
 pub record Computed : Type 0 where
-  -- two arrivals of 1 to 4
-  pub forward-answers : answers forward ≡ accepted ∷ given 1 101 ∷ accepted ∷ accepted ∷ given 2 102 ∷ accepted ∷ givenFrom 3 2 (nothing ∷ [])
+  pub forward-comes : Comes forward (accepted ∷ given 1 101 ∷ accepted ∷ accepted ∷ given 2 102 ∷ accepted ∷ givenFrom 3 2 (nothing ∷ [])) (messages 1 4) (messages 1 4) (inOrder 4 slip)
   pub forward-allowed : AllAllowed key (made forward refl)
-  pub forward-offered : offered key (after forward .log) ≡ message 1 ∷ message 2 ∷ message 3 ∷ message 4 ∷ []
-  pub forward-ends : GaveNothing (mine key (after forward .log))
-  pub forward-out : out forward ≡ inOrder 4 slip
-  pub mixed-answers : answers mixed ≡ refused 14 ∷ accepted ∷ nothing ∷ accepted ∷ accepted ∷ given 1 101 ∷ accepted ∷ givenFrom 2 3 (nothing ∷ [])
+  pub forward-ends : Ends forward
+  pub mixed-comes : Comes mixed (refused 14 ∷ accepted ∷ nothing ∷ accepted ∷ accepted ∷ given 1 101 ∷ accepted ∷ givenFrom 2 3 (nothing ∷ [])) strewn strewn (inOrder 4 slip)
   pub mixed-allowed : AllAllowed key (made mixed refl)
-  pub mixed-offered : offered key (after mixed .log) ≡ message 4 ∷ message 2 ∷ message 1 ∷ message 3 ∷ []
-  pub mixed-ends : GaveNothing (mine key (after mixed .log))
-  pub mixed-out : out mixed ≡ inOrder 4 slip
-  -- arrivals with a refused offer
-  pub late-answers : answers late ≡ accepted ∷ given 2 102 ∷ refused 10 ∷ nothing ∷ []
-  pub late-offered : offered key (after late .log) ≡ timed 2 600 ∷ message 1 ∷ []
-  pub late-ends : GaveNothing (mine key (after late .log))
-  pub late-out : out late ≡ record { number = 2; slip = 102 } ∷ []
-  pub forced-answers : answers forced ≡ accepted ∷ given 2 102 ∷ refused 10 ∷ nothing ∷ []
-  pub forced-offered : offered key (after forced .log) ≡ message 2 ∷ message 1 ∷ []
-  pub forced-ends : GaveNothing (mine key (after forced .log))
-  pub forced-out : out forced ≡ record { number = 2; slip = 102 } ∷ []
-  pub full-answers : answers full ≡ acceptedTimes 15 (refused 12 ∷ accepted ∷ givenFrom 1 16 (nothing ∷ []))
-  pub full-offered : offered key (after full .log) ≡ messages 2 16 ++ (message 1 ∷ [])
-  pub full-ends : GaveNothing (mine key (after full .log))
-  pub full-out : out full ≡ inOrder 16 slip
-  -- one with another slip, and one without the last take
-  pub relabelled-taken : takenIn (mine key (after relabelled .log)) ≡ record { number = 1; timeout = 0; slip = 201 } ∷ []
-  pub relabelled-ends : GaveNothing (mine key (after relabelled .log))
-  pub relabelled-out : out relabelled ≡ inOrder 1 otherSlip
-  pub unasked-taken : takenIn (mine key (after unasked .log)) ≡ message 1 ∷ message 2 ∷ []
-  pub unasked-out : out unasked ≡ inOrder 1 slip
-  -- those beside them
-  pub straight-1-taken : takenIn (mine key (after (straight 1 1) .log)) ≡ messages 1 1
-  pub straight-1-ends : GaveNothing (mine key (after (straight 1 1) .log))
-  pub straight-1-out : out (straight 1 1) ≡ inOrder 1 slip
-  pub straight-2-offered : offered key (after (straight 1 2) .log) ≡ messages 1 2
-  pub straight-2-ends : GaveNothing (mine key (after (straight 1 2) .log))
-  pub straight-2-out : out (straight 1 2) ≡ inOrder 2 slip
-  pub straight-17-offered : offered key (after (straight 1 17) .log) ≡ messages 1 17
-  pub straight-17-ends : GaveNothing (mine key (after (straight 1 17) .log))
-  pub straight-17-out : out (straight 1 17) ≡ inOrder 17 slip
+  pub mixed-ends : Ends mixed
+  pub late-comes : Comes late (accepted ∷ given 2 102 ∷ refused 10 ∷ nothing ∷ []) (timed 2 600 ∷ message 1 ∷ []) (timed 2 600 ∷ []) (record { number = 2; slip = 102 } ∷ [])
+  pub late-ends : Ends late
+  pub forced-comes : Comes forced (accepted ∷ given 2 102 ∷ refused 10 ∷ nothing ∷ []) (message 2 ∷ message 1 ∷ []) (message 2 ∷ []) (record { number = 2; slip = 102 } ∷ [])
+  pub forced-ends : Ends forced
+  pub full-comes : Comes full (acceptedTimes 15 (refused 12 ∷ accepted ∷ givenFrom 1 16 (nothing ∷ []))) (messages 2 16 ++ (message 1 ∷ [])) (messages 2 15 ++ (message 1 ∷ [])) (inOrder 16 slip)
+  pub full-ends : Ends full
+  pub relabelled-comes : Comes relabelled (accepted ∷ given 1 201 ∷ nothing ∷ []) (relabel 1 ∷ []) (relabel 1 ∷ []) (inOrder 1 otherSlip)
+  pub relabelled-ends : Ends relabelled
+  pub unasked-comes : Comes unasked (accepted ∷ accepted ∷ given 1 101 ∷ []) (messages 1 2) (messages 1 2) (inOrder 1 slip)
+  pub straight-1-comes : Comes (straight 1 1) (inTurn 1 1) (messages 1 1) (messages 1 1) (inOrder 1 slip)
+  pub straight-1-ends : Ends (straight 1 1)
+  pub straight-2-comes : Comes (straight 1 2) (inTurn 1 2) (messages 1 2) (messages 1 2) (inOrder 2 slip)
+  pub straight-2-ends : Ends (straight 1 2)
+  pub straight-17-comes : Comes (straight 1 17) (inTurn 1 17) (messages 1 17) (messages 1 17) (inOrder 17 slip)
+  pub straight-17-ends : Ends (straight 1 17)
 
 pub computed : Computed
 unfolding same utf8.run runs.run runs.rest alnum suffix baseLength callsign sameCall textByte ruled idText streamId sameKey keyOf isNoKey keepsKey namedOf keepsRow isNoRow stream.keeps stream.offer stream.take stream.force keepsSlot hasKey keepsSlots table.lookUp
 computed = record {
-  forward-answers = refl;
+  forward-comes = record { answers-are = refl; offers-are = refl; accepts-are = refl; list-is = refl };
   forward-allowed = ((λ e. tt), ((λ e. tt), ((λ e. tt), ((λ e. (refl, refl)), ((λ e. tt), ((λ e. (refl, refl)), ((λ e. (refl, refl)), ((λ e. tt), ((λ e. (refl, refl)), tt)))))))));
-  forward-offered = refl;
   forward-ends = tt;
-  forward-out = refl;
-  mixed-answers = refl;
+  mixed-comes = record { answers-are = refl; offers-are = refl; accepts-are = refl; list-is = refl };
   mixed-allowed = ((λ e. tt), ((λ e. tt), ((λ e. tt), ((λ e. tt), ((λ e. (refl, refl)), ((λ e. tt), ((λ e. (refl, refl)), ((λ e. (refl, refl)), ((λ e. tt), ((λ e. (refl, refl)), ((λ e. tt), tt)))))))))));
-  mixed-offered = refl;
   mixed-ends = tt;
-  mixed-out = refl;
-  late-answers = refl;
-  late-offered = refl;
+  late-comes = record { answers-are = refl; offers-are = refl; accepts-are = refl; list-is = refl };
   late-ends = tt;
-  late-out = refl;
-  forced-answers = refl;
-  forced-offered = refl;
+  forced-comes = record { answers-are = refl; offers-are = refl; accepts-are = refl; list-is = refl };
   forced-ends = tt;
-  forced-out = refl;
-  full-answers = refl;
-  full-offered = refl;
+  full-comes = record { answers-are = refl; offers-are = refl; accepts-are = refl; list-is = refl };
   full-ends = tt;
-  full-out = refl;
-  relabelled-taken = refl;
+  relabelled-comes = record { answers-are = refl; offers-are = refl; accepts-are = refl; list-is = refl };
   relabelled-ends = tt;
-  relabelled-out = refl;
-  unasked-taken = refl;
-  unasked-out = refl;
-  straight-1-taken = refl;
+  unasked-comes = record { answers-are = refl; offers-are = refl; accepts-are = refl; list-is = refl };
+  straight-1-comes = record { answers-are = refl; offers-are = refl; accepts-are = refl; list-is = refl };
   straight-1-ends = tt;
-  straight-1-out = refl;
-  straight-2-offered = refl;
+  straight-2-comes = record { answers-are = refl; offers-are = refl; accepts-are = refl; list-is = refl };
   straight-2-ends = tt;
-  straight-2-out = refl;
-  straight-17-offered = refl;
+  straight-17-comes = record { answers-are = refl; offers-are = refl; accepts-are = refl; list-is = refl };
   straight-17-ends = tt;
-  straight-17-out = refl;
 }
 
 -- ---- THE PREMISES CAN BE MET, in two orders
@@ -149,7 +125,7 @@ forward-written = record {
   log = after forward .log;
   table = after forward .table;
   chain = made forward refl;
-  offers = rw (computed .forward-offered) (as-many 4 slip _ (λ i. omega arith) refl);
+  offers = rw (computed .forward-comes .offers-are) (as-many 4 slip (messages 1 4) (λ i. omega arith) refl);
   allowed = computed .forward-allowed;
   ends = computed .forward-ends;
 }
@@ -159,59 +135,60 @@ mixed-written = record {
   log = after mixed .log;
   table = after mixed .table;
   chain = made mixed refl;
-  offers = rw (computed .mixed-offered) (as-many 4 slip _ (λ i. omega arith) refl);
+  offers = rw (computed .mixed-comes .offers-are) (as-many 4 slip strewn (λ i. omega arith) refl);
   allowed = computed .mixed-allowed;
   ends = computed .mixed-ends;
 }
 
 -- ---- AND THE REST IS NEEDED
 
-all-offers : (n : ℕ) (l : List Call) (m : List Held) → offered key (after l .log) ≡ m → GaveNothing (mine key (after l .log))
-    → ((i : ℕ) → countHeld (numbered i) m ≡ count (numbered i) (inOrder n slip)) → every (λ x. x .slip =? slip (x .number)) m ≡ true → AllOffers n l
-all-offers n l m e g c t = record { exactly = rw e (as-many n slip m c t); ends = g }
+-- of the messages that pass a test there are more in one list than in the other
+differ : (p : Sent → Bool) (l m : List Call) (a b : List Sent) → out l ≡ a → out m ≡ b → (count p a ≡ count p b → ⊥) → out l ≡ out m → ⊥
+differ p l m a b e f d q = d (ap (count p) (sym e ∙ q ∙ f))
 
--- of some message there are more in one list than in the other
-differ : (p : Sent → Bool) (here there : List Call) (a b : List Sent) → out here ≡ a → out there ≡ b → (count p a ≡ count p b → ⊥) → Differ here there
-differ p here there a b e f d q = d (ap (count p) (sym e ∙ q ∙ f))
+-- the arrivals to compare with lack nothing
+abbrev workshop : (n : ℕ) (slip : ℕ → ℕ) (l : List Call) (m : List Held) → every small l ≡ true → takenIn (mine key (after l .log)) ≡ m → Exactly n slip m → Ends l → Workshop key n slip
+workshop n slip l m w e x g = record { log = after l .log; table = after l .table; chain = made l w; exactly = rw e x; ends = g }
 
--- that refused offers do not count: the lists differ where 1 came after 2 was taken by timeout or by force, and where 17 came before 1
-pub late-differs : AllOffers 2 late × AllOffers 2 (straight 1 2) × Differ late (straight 1 2)
+abbrev straight-1 : Workshop key 1 slip
+straight-1 = workshop 1 slip (straight 1 1) _ refl (computed .straight-1-comes .accepts-are) (as-many 1 slip (messages 1 1) (λ i. omega arith) refl) (computed .straight-1-ends)
+
+abbrev straight-2 : Workshop key 2 slip
+straight-2 = workshop 2 slip (straight 1 2) _ refl (computed .straight-2-comes .accepts-are) (as-many 2 slip (messages 1 2) (λ i. omega arith) refl) (computed .straight-2-ends)
+
+abbrev straight-17 : Workshop key 17 slip
+straight-17 = workshop 17 slip (straight 1 17) _ refl (computed .straight-17-comes .accepts-are) (as-many 17 slip (messages 1 17) (λ i. omega arith) refl) (computed .straight-17-ends)
+
+-- that refused offers do not count: 1 is missing where it came after 2 was taken by timeout, or by force; 17 where it came before 1
+pub late-differs : AllOffers 2 late × Differs 2 late
 late-differs = (
-  all-offers 2 late _ (computed .late-offered) (computed .late-ends) (λ i. omega arith) refl,
-  all-offers 2 (straight 1 2) _ (computed .straight-2-offered) (computed .straight-2-ends) (λ i. omega arith) refl,
-  differ (numbered 1) late (straight 1 2) _ _ (computed .late-out) (computed .straight-2-out) (λ e. omega arith),
+  record { exactly = rw (computed .late-comes .offers-are) (as-many 2 slip (timed 2 600 ∷ message 1 ∷ []) (λ i. omega arith) refl); ends = computed .late-ends },
+  (straight-2, differ (numbered 1) late (straight 1 2) _ _ (computed .late-comes .list-is) (computed .straight-2-comes .list-is) (λ e. omega arith)),
 )
 
-pub forced-differs : AllOffers 2 forced × AllOffers 2 (straight 1 2) × Differ forced (straight 1 2)
+pub forced-differs : AllOffers 2 forced × Differs 2 forced
 forced-differs = (
-  all-offers 2 forced _ (computed .forced-offered) (computed .forced-ends) (λ i. omega arith) refl,
-  late-differs .1,
-  differ (numbered 1) forced (straight 1 2) _ _ (computed .forced-out) (computed .straight-2-out) (λ e. omega arith),
+  record { exactly = rw (computed .forced-comes .offers-are) (as-many 2 slip (message 2 ∷ message 1 ∷ []) (λ i. omega arith) refl); ends = computed .forced-ends },
+  (straight-2, differ (numbered 1) forced (straight 1 2) _ _ (computed .forced-comes .list-is) (computed .straight-2-comes .list-is) (λ e. omega arith)),
 )
 
-pub full-differs : AllOffers 17 full × AllOffers 17 (straight 1 17) × Differ full (straight 1 17)
+pub full-differs : AllOffers 17 full × Differs 17 full
 full-differs = (
-  all-offers 17 full _ (computed .full-offered) (computed .full-ends) (λ i. omega arith) refl,
-  all-offers 17 (straight 1 17) _ (computed .straight-17-offered) (computed .straight-17-ends) (λ i. omega arith) refl,
-  differ (numbered 17) full (straight 1 17) _ _ (computed .full-out) (computed .straight-17-out) (λ e. omega arith),
+  record { exactly = rw (computed .full-comes .offers-are) (as-many 17 slip (messages 2 16 ++ (message 1 ∷ [])) (λ i. omega arith) refl); ends = computed .full-ends },
+  (straight-17, differ (numbered 17) full (straight 1 17) _ _ (computed .full-comes .list-is) (computed .straight-17-comes .list-is) (λ e. omega arith)),
 )
 
 -- that the same number has the same slip
-workshop : (n : ℕ) (slip : ℕ → ℕ) (l : List Call) → every small l ≡ true → Exactly n slip (takenIn (mine key (after l .log))) → GaveNothing (mine key (after l .log)) → Workshop key n slip
-workshop n slip l w e g = record { log = after l .log; table = after l .table; chain = made l w; exactly = e; ends = g }
-
-pub slips-differ : (here : Workshop key 1 slip) × (there : Workshop key 1 otherSlip) × (list key (here .log) ≡ list key (there .log) → ⊥)
-unfolding workshop
-slips-differ = (
-  workshop 1 slip (straight 1 1) refl (rw (computed .straight-1-taken) (as-many 1 slip _ (λ i. omega arith) refl)) (computed .straight-1-ends),
-  workshop 1 otherSlip relabelled refl (rw (computed .relabelled-taken) (as-many 1 otherSlip _ (λ i. omega arith) refl)) (computed .relabelled-ends),
-  differ (λ x. x .slip =? 101) (straight 1 1) relabelled _ _ (computed .straight-1-out) (computed .relabelled-out) (λ e. omega arith),
+pub relabelled-differs : (w : Workshop key 1 otherSlip) × (w .log ≡ after relabelled .log) × Differs 1 relabelled
+relabelled-differs = (
+  workshop 1 otherSlip relabelled _ refl (computed .relabelled-comes .accepts-are) (as-many 1 otherSlip (relabel 1 ∷ []) (λ i. omega arith) refl) (computed .relabelled-ends),
+  refl,
+  (straight-1, differ (λ x. x .slip =? 101) relabelled (straight 1 1) _ _ (computed .relabelled-comes .list-is) (computed .straight-1-comes .list-is) (λ e. omega arith)),
 )
 
--- that the last take gave nothing
-pub unasked-differs : Exactly 2 slip (takenIn (mine key (after unasked .log))) × AllOffers 2 (straight 1 2) × Differ unasked (straight 1 2)
+-- that the last take gave nothing: 2 is missing
+pub unasked-differs : NoLastTake 2 unasked × Differs 2 unasked
 unasked-differs = (
-  rw (computed .unasked-taken) (as-many 2 slip _ (λ i. omega arith) refl),
-  late-differs .1,
-  differ (numbered 2) unasked (straight 1 2) _ _ (computed .unasked-out) (computed .straight-2-out) (λ e. omega arith),
+  record { exactly = rw (computed .unasked-comes .accepts-are) (as-many 2 slip (messages 1 2) (λ i. omega arith) refl) },
+  (straight-2, differ (numbered 2) unasked (straight 1 2) _ _ (computed .unasked-comes .list-is) (computed .straight-2-comes .list-is) (λ e. omega arith)),
 )

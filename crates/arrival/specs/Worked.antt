@@ -8,11 +8,11 @@ use Rattle.places.specs.declared.Held.{Held}
 use Rattle.rows.specs.Answer.{Answer}
 use Rattle.streams.specs.declared.Table.{Table}
 use Rattle.streams.specs.Table.{empty}
-use Rattle.history.specs.History.{take, force, Sent}
+use Rattle.history.specs.History.{take, force, Sent, takenIn}
 use Rattle.history.specs.Chain.{Call, offer, give, asked, Log, start, answered, mine}
 use Rattle.history.specs.Cards.{originator, chat}
 use Rattle.arrival.specs.Arrival.{Exactly, GaveNothing}
-use Rattle.arrival.specs.Workshops.{list, offered}
+use Rattle.arrival.specs.Workshops.{Workshop, list, offered}
 
 -- ---- calls made one after the other
 
@@ -63,6 +63,9 @@ timed n timeout = record { number = n; timeout = timeout; slip = slip n }
 abbrev pub message : ℕ → Held
 message n = timed n 0
 
+abbrev pub relabel : ℕ → Held
+relabel n = record { number = n; timeout = 0; slip = otherSlip n }
+
 abbrev pub bring : ℕ → Call
 bring n = offer (message n) 0
 
@@ -99,7 +102,7 @@ forward = bring 1 ∷ ask 7 ∷ bring 2 ∷ bring 3 ∷ ask 5 ∷ bring 4 ∷ ta
 abbrev pub mixed : List Call
 mixed = ask 9 ∷ bring 4 ∷ ask 4294967295 ∷ bring 2 ∷ bring 1 ∷ ask 3 ∷ bring 3 ∷ takes 4
 
--- ---- arrivals that lack one thing; each stands beside `straight 1 n`, which lacks nothing
+-- ---- arrivals that lack one thing
 
 -- 2 is given out by timeout, so 1 comes too late: 10
 abbrev pub late : List Call
@@ -115,17 +118,30 @@ full = brings 2 16 ++ (bring 1 ∷ takes 17)
 
 -- 1 comes with another slip
 abbrev pub relabelled : List Call
-relabelled = offer (record { number = 1; timeout = 0; slip = otherSlip 1 }) 0 ∷ takes 2
+relabelled = offer (relabel 1) 0 ∷ takes 2
 
 -- 2 is not taken yet
 abbrev pub unasked : List Call
 unasked = brings 1 2 ++ takes 1
 
--- as the premises are but for this: the numbers are counted over all offers made, refused ones too
+-- ---- what they show
+
+-- what the calls came to: their answers, the messages offered, those accepted, and the list that was given out
+pub record Comes (l : List Call) (said : List Answer) (offers takes-in : List Held) (gave : List Sent) : Type 0 where
+  pub answers-are : answers l ≡ said
+  pub offers-are : offered key (after l .log) ≡ offers
+  pub accepts-are : takenIn (mine key (after l .log)) ≡ takes-in
+  pub list-is : out l ≡ gave
+
+-- as a workshop should be, but that the numbers are counted over all offers made, refused ones too
 pub record AllOffers (n : ℕ) (l : List Call) : Type 0 where
   pub exactly : Exactly n slip (offered key (after l .log))
   pub ends : GaveNothing (mine key (after l .log))
 
--- two lists that differ
-abbrev pub Differ : List Call → List Call → Type 0
-Differ here there = out here ≡ out there → ⊥
+-- as a workshop should be, but for the last take
+pub record NoLastTake (n : ℕ) (l : List Call) : Type 0 where
+  pub exactly : Exactly n slip (takenIn (mine key (after l .log)))
+
+-- a workshop that lacks nothing gave out another list
+abbrev pub Differs : ℕ → List Call → Type 0
+Differs n l = (w : Workshop key n slip) × (out l ≡ list key (w .log) → ⊥)

@@ -33,7 +33,7 @@ list k l = givenOut (mine k l)
 -- ---- THE STATEMENT
 
 -- a workshop that accepted exactly 1 to n of the stream k since its row opened, and asked until nothing came: any chain, with whatever calls on
--- other streams, saves and refused calls between. Of loads the log that counts is demand 3's
+-- other streams, saves and refused calls between. Where images were loaded, the log is the one that demand 3 counts
 pub record Workshop (k : Key) (n : ℕ) (slip : ℕ → ℕ) : Type 0 where
   pub log : Log
   pub table : Table
