@@ -1,90 +1,202 @@
--- W14, the premises can be met on a row by itself, for every n up to 4294967295 and whatever slips of 32 bits: the messages come in order, and
--- each is taken as it comes.
+-- W14, the premises can be met for every n from 1 to 4294967295, for every stream and whatever slips of 32 bits, as document 02's sentence has them: the
+-- messages come in order, and each is taken as it comes. On a row by itself for n = 0 too.
 use Prim.Native.Nat.{ℕ, zero, suc, _+_, _≤_}
 use native.Mathlib.Omega.{arith}
-use mathlib.Core.Path.{_≡_, refl, subst}
+use mathlib.Core.Path.{_≡_, refl, sym, ap, _∙_, subst}
 use mathlib.Core.Bool.{true}
 use mathlib.Core.List.{List, [], _∷_, _++_}
 use mathlib.Core.Logic.{inl, inr}
+use mathlib.Core.Option.{Option, none, some as just}
 use borrow.Author.Tests.{lt-ltb, le-ltb, eq-eqb}
-use Rattle.octets.proofs.Tests.{and-both}
+use Rattle.octets.proofs.Tests.{if-yes, and-both}
+use Rattle.utf8.specs.Utf8 as utf8
+use Rattle.callsigns.specs.Runs as runs
+use Rattle.callsigns.specs.Callsign.{alnum, suffix, baseLength, callsign}
+use Rattle.names.specs.Texts.{textByte, ruled, idText, streamId}
+use Rattle.keys.specs.declared.Key.{Key}
+use Rattle.keys.specs.Key.{sameKey, keyOf, namedOf}
+use Rattle.keys.proofs.SameKey.{sameKey-refl}
 use Rattle.places.specs.declared.Held.{Held}
+use Rattle.rows.specs.declared.Row.{Row}
 use Rattle.rows.specs.Answer.{accepted, given, Outcome}
-use Rattle.rows.specs.Stream.{Stream, word, words}
+use Rattle.rows.specs.Stream.{Stream, fresh, word, words}
 use Rattle.rows.specs.Stream as row
-use Rattle.history.specs.History.{take, accepts, gives, gives-nothing, History, opened, _▷_, takenIn, numbered, In}
-use Rattle.history.specs.Chain.{Call, offer, give, small, noted, rowCall}
+use Rattle.rows.proofs.Rules.{unpacks}
+use Rattle.rows.proofs.Keeps.{fresh-keeps}
+use Rattle.streams.specs.declared.Table.{Table}
+use Rattle.streams.specs.Table.{empty}
+use Rattle.streams.specs.Meaning.{rowFor}
+use Rattle.streams.proofs.Alone.{named-is}
+use Rattle.streams.proofs.Unknown as unknown
+use Rattle.history.specs.History.{take, Event, accepts, gives-nothing, History, opened, restored, _▷_, takenIn, numbered, In}
+use Rattle.history.specs.Chain.{Call, offer, give, small, asked, Log, answered, noted, mine, Chain, begins, asks, rowCall, replay}
+use Rattle.history.specs.Cards.{originator, chat}
 use Rattle.history.proofs.Counting.{held-append}
-use Rattle.arrival.specs.Arrival.{Exactly, Alone, begins, asks, Heard}
+use Rattle.history.proofs.Demand3.{rules-kept, own-answer, no-row-no-history}
+use Rattle.arrival.specs.Arrival.{Exactly, GaveNothing, Heard}
+use Rattle.arrival.specs.Arrival as alone
+use Rattle.arrival.specs.Workshops.{AllAllowed, AsWritten}
 use Rattle.arrival.proofs.Rising.{one-more, of-order}
+use Rattle.arrival.proofs.OneRow.{good}
+use Rattle.arrival.proofs.Workshops.{row-of, heard}
+use Rattle.arrival.proofs.Sentence.{all-taken-in, as-workshop}
+use Rattle.arrival.proofs.Nought.{no-row}
 
--- a row that expects e and holds nothing
+-- ---- the row that expects e and holds nothing, its next message, and a take after it
+
 abbrev at : ℕ → Stream
 at e = record { expected = e; clock = 0; gapStart = 0; held = [] }
 
--- and one that holds m besides
 abbrev holding : ℕ → Held → Stream
 holding e m = record { expected = e; clock = 0; gapStart = 0; held = m ∷ [] }
 
-module _ (slip : ℕ → ℕ) (n : ℕ) where
+module _ (slip : ℕ → ℕ) (i : ℕ) where
   abbrev message : Held
-  message = record { number = n + 1; timeout = 0; slip = slip (n + 1) }
+  message = record { number = i + 1; timeout = 0; slip = slip (i + 1) }
 
-  offers-next : row.offer (at (n + 1)) message 0 ≡ record { answer = accepted; after = holding (n + 1) message }
+  offers-next : row.offer (at (i + 1)) message 0 ≡ record { answer = accepted; after = holding (i + 1) message }
   unfolding row.offer
-  offers-next = rw (le-ltb (n + 1) (n + 1) (omega arith)) refl
+  offers-next = rw (le-ltb (i + 1) (i + 1) (omega arith)) refl
 
-  takes-next : row.take (holding (n + 1) message) 0 ≡ record { answer = given (n + 1) (slip (n + 1)); after = at ((n + 1) + 1) }
+  takes-next : row.take (holding (i + 1) message) 0 ≡ record { answer = given (i + 1) (slip (i + 1)); after = at ((i + 1) + 1) }
   unfolding row.take
-  takes-next = rw (eq-eqb (n + 1) (n + 1) refl) refl
+  takes-next = rw (eq-eqb (i + 1) (i + 1) refl) refl
+
+  one-more-exactly : (l : List Held) → Exactly i slip l → Exactly (suc i) slip (l ++ (message ∷ []))
+  one-more-exactly l e = record { numbers = λ j. omega (arith, e .numbers j, one-more i j, held-append (numbered j) l (message ∷ [])); slips = λ y. slips y l (e .slips y) }
+    where
+      slips : (y : Held) (l : List Held) → (In y l → y .slip ≡ slip (y .number)) → In y (l ++ (message ∷ [])) → y .slip ≡ slip (y .number)
+      slips y [] f (inl z) = rw z refl
+      slips y (x ∷ l) f (inl z) = f (inl z)
+      slips y (x ∷ l) f (inr j) = slips y l (λ b. f (inr b)) j
 
 takes-none : (e : ℕ) → row.take (at e) 0 ≡ row.stay (at e) 0
 unfolding row.take
 takes-none e = refl
 
--- a call whose outcome is known
-then : {h : History} {s : Stream} → Alone h s → (c : Call) → small c ≡ true → (o : Outcome Stream) → rowCall s c ≡ o → Alone (noted h c (o .answer)) (o .after)
-then {h} a c w o e = subst (λ (x : Outcome Stream). Alone (noted h c (x .answer)) (x .after)) e (asks a c w)
+-- ---- on the table
 
--- 1 to i came and were taken
-record Came (slip : ℕ → ℕ) (i : ℕ) : Type 0 where
-  history : History
-  alone : Alone history (at (i + 1))
-  exactly : Exactly i slip (takenIn history)
+module _ (o s : List ℕ) (p : callsign o ≡ true) (q : streamId s ≡ true) where
+  abbrev k : Key
+  k = keyOf o s
 
-module _ (slip : ℕ → ℕ) (n : ℕ) (most : n ≤ 4294967295) (w : (i : ℕ) → i ≤ n → word (slip i) ≡ true) where
-  message-small : (i : ℕ) → i + 1 ≤ n → small (offer (message slip i) 0) ≡ true
-  message-small i p = and-both (words (message slip i)) _ (and-both (word (i + 1)) _ (lt-ltb (i + 1) 4294967296 (omega arith)) (w (i + 1) p)) refl
+  own : sameKey k (namedOf o s .key) ≡ true
+  own = rw (named-is o s p q) (sameKey-refl k)
 
-  next-came : (i : ℕ) → i + 1 ≤ n → Came slip i → Came slip (suc i)
-  next-came i p x =
-      let m = message slip i in
-      let e : (i + 1) + 1 ≡ suc i + 1 = omega arith in
-      let offers = then (x .alone) (offer m 0) (message-small i p) _ (offers-next slip i) in
-      record {
-        history = x .history ▷ accepts m 0 ▷ gives take (i + 1) (slip (i + 1)) 0;
-        alone = subst (λ (y : ℕ). Alone (x .history ▷ accepts m 0 ▷ gives take (i + 1) (slip (i + 1)) 0) (at y)) e (then offers (give take 0) refl _ (takes-next slip i));
-        exactly = record {
-          numbers = λ j. omega (arith, x .exactly .numbers j, one-more i j, held-append (numbered j) (takenIn (x .history)) (m ∷ []));
-          slips = λ y. slips y (takenIn (x .history)) (x .exactly .slips y);
-        };
-      }
+  -- a call that is answered as the row by itself answers it: the history and the row after it
+  module _ {l : Log} {t : Table} (x : Chain l t) (c : Call) (w : small c ≡ true) (r : Outcome Stream) (a : asked t o s c .answer ≡ rowCall (replay (mine k l)) c .answer)
+      (e : rowCall (replay (mine k l)) c ≡ r) where
+    says : asked t o s c .answer ≡ r .answer
+    says = a ∙ ap (λ (y : Outcome Stream). y .answer) e
+
+    history-is : mine k (answered l o s c (asked t o s c .answer)) ≡ noted (mine k l) c (r .answer)
+    history-is = if-yes _ _ _ own ∙ ap (noted (mine k l) c) says
+
+    row-after : replay (mine k (answered l o s c (asked t o s c .answer))) ≡ r .after
+    row-after = ap replay (if-yes _ _ _ own ∙ ap (noted (mine k l) c) a) ∙ sym (good (alone.asks (row-of x k) c w) .led .is) ∙ ap (λ (y : Outcome Stream). y .after) e
+
+  -- a stream with a history has a row, and so a call on it is answered as the row by itself answers it
+  by-row : {l : Log} {t : Table} → Chain l t → (h : History) (e : Event) → mine k l ≡ h ▷ e → (c : Call) → asked t o s c .answer ≡ rowCall (replay (mine k l)) c .answer
+  by-row {l} {t} x h e is c = go (rowFor k t) refl
     where
-      slips : (y : Held) (l : List Held) → (In y l → y .slip ≡ slip (y .number)) → In y (l ++ (message slip i ∷ [])) → y .slip ≡ slip (y .number)
-      slips y [] f (inl q) = rw q refl
-      slips y (x ∷ l) f (inl q) = f (inl q)
-      slips y (x ∷ l) f (inr j) = slips y l (λ k. f (inr k)) j
+      begun : History → Type 0
+      begun opened = ⊥
+      begun (restored r) = Unit {0}
+      begun (g ▷ d) = Unit {0}
 
-  came : (i : ℕ) → i ≤ n → Came slip i
-  came zero p = record { history = opened; alone = begins; exactly = record { numbers = of-order slip 0; slips = λ m i. absurd i } }
-  came (suc i) p = next-came i (omega arith) (came i (omega arith))
+      go : (y : Option Row) → rowFor k t ≡ y → asked t o s c .answer ≡ rowCall (replay (mine k l)) c .answer
+      go none f = absurd (subst begun (sym is ∙ no-row-no-history x k f) tt)
+      go (just r) f = own-answer x o s p q r f c
 
-  pub can-be-met : Heard n slip
-  can-be-met = let x = came n (omega arith) in
-      record {
-        history = x .history ▷ gives-nothing 0;
-        row = at (n + 1);
-        alone = then (x .alone) (give take 0) refl _ (takes-none (n + 1));
-        exactly = x .exactly;
-        ends = tt;
-      }
+  -- an empty table opens a row for the first
+  first-answer : (m : Held) → 1 ≤ m .number → asked empty o s (offer m 0) .answer ≡ row.offer fresh m 0 .answer
+  first-answer m low =
+      unknown.offer-opens empty o s (rules-kept begins) p q (no-row begins k tt refl) m 0 low 0 refl .answer
+      ∙ ap (λ (y : Outcome Row). y .answer) (if-yes _ _ _ fresh-keeps) ∙ ap (λ (y : Stream). row.offer y m 0 .answer) (unpacks fresh)
+
+  -- 1 to i came and were taken; the next offer will be answered as the row by itself answers it, and from 1 on there is a history, and so a row
+  record Came (slip : ℕ → ℕ) (i : ℕ) : Type 0 where
+    log : Log
+    table : Table
+    chain : Chain log table
+    allowed : AllAllowed k chain
+    row-is : replay (mine k log) ≡ at (i + 1)
+    exactly : Exactly i slip (takenIn (mine k log))
+    answers : (m : Held) → 1 ≤ m .number → asked table o s (offer m 0) .answer ≡ row.offer (replay (mine k log)) m 0 .answer
+    begun : 1 ≤ i → (h : History) × (e : Event) × (mine k log ≡ h ▷ e)
+
+  module _ (slip : ℕ → ℕ) (n : ℕ) (most : n ≤ 4294967295) (w : (i : ℕ) → 1 ≤ i → i ≤ n → word (slip i) ≡ true) where
+    message-small : (i : ℕ) → i + 1 ≤ n → small (offer (message slip i) 0) ≡ true
+    message-small i le = and-both (words (message slip i)) _ (and-both (word (i + 1)) _ (lt-ltb (i + 1) 4294967296 (omega arith)) (w (i + 1) (omega arith) le)) refl
+
+    next-came : (i : ℕ) → i + 1 ≤ n → Came slip i → Came slip (suc i)
+    next-came i le x =
+        let m = message slip i in
+        let small-m = message-small i le in
+        let given-m : Outcome Stream = record { answer = given (i + 1) (slip (i + 1)); after = at ((i + 1) + 1) } in
+        let held-m : Outcome Stream = record { answer = accepted; after = holding (i + 1) m } in
+        let a = x .answers m (omega arith) in
+        let e = ap (λ (y : Stream). row.offer y m 0) (x .row-is) ∙ offers-next slip i in
+        let h = history-is (x .chain) (offer m 0) small-m held-m a e in
+        let offered-m = asks (x .chain) o s (offer m 0) small-m in
+        let b = by-row offered-m (mine k (x .log)) (accepts m 0) h (give take 0) in
+        let f = ap (λ (y : Stream). row.take y 0) (row-after (x .chain) (offer m 0) small-m held-m a e) ∙ takes-next slip i in
+        let g = history-is offered-m (give take 0) refl given-m b f in
+        record {
+          log = _;
+          table = _;
+          chain = asks offered-m o s (give take 0) refl;
+          allowed = ((λ z. tt), ((λ z. (refl, says (x .chain) (offer m 0) small-m held-m a e)), x .allowed));
+          row-is = row-after offered-m (give take 0) refl given-m b f ∙ (let z : (i + 1) + 1 ≡ suc i + 1 = omega arith in ap at z);
+          exactly = subst (Exactly (suc i) slip) (sym (ap takenIn g ∙ ap takenIn h)) (one-more-exactly slip i _ (x .exactly));
+          answers = λ y low. by-row (asks offered-m o s (give take 0) refl) _ _ g (offer y 0);
+          begun = λ low. (_, _, g);
+        }
+
+    came : (i : ℕ) → i ≤ n → Came slip i
+    came zero le = record {
+      log = _;
+      table = _;
+      chain = begins;
+      allowed = tt;
+      row-is = refl;
+      exactly = record { numbers = of-order slip 0; slips = λ m i. absurd i };
+      answers = first-answer;
+      begun = λ low. absurd (omega arith);
+    }
+    came (suc i) le = next-came i (omega arith) (came i (omega arith))
+
+    pub can-be-written : 1 ≤ n → AsWritten k n slip
+    can-be-written low =
+        let x = came n (omega arith) in
+        let begun = x .begun low in
+        let a = by-row (x .chain) (begun .0) (begun .1) (begun .2) (give take 0) in
+        let e = ap (λ (y : Stream). row.take y 0) (x .row-is) ∙ takes-none (n + 1) in
+        let g = history-is (x .chain) (give take 0) refl (row.stay (at (n + 1)) 0) a e in
+        let asked-all = asks (x .chain) o s (give take 0) refl in
+        let allowed : AllAllowed k asked-all = ((λ z. tt), x .allowed) in
+        record {
+          log = _;
+          table = _;
+          chain = asked-all;
+          offers = subst (Exactly n slip) (sym (ap takenIn g) ∙ all-taken-in k asked-all allowed) (x .exactly);
+          allowed = allowed;
+          ends = subst GaveNothing (sym g) tt;
+        }
+
+-- ---- on a row by itself
+
+are-names : (callsign originator ≡ true) × (streamId chat ≡ true)
+unfolding utf8.run runs.run runs.rest alnum suffix baseLength callsign textByte ruled idText streamId
+are-names = (refl, refl)
+
+-- for n = 0 nothing came, and a take gives nothing
+pub can-be-met : (slip : ℕ → ℕ) (n : ℕ) → n ≤ 4294967295 → ((i : ℕ) → 1 ≤ i → i ≤ n → word (slip i) ≡ true) → Heard n slip
+can-be-met slip zero most w = record {
+  history = opened ▷ gives-nothing 0;
+  row = at 1;
+  alone = subst (λ (y : Outcome Stream). alone.Alone (noted opened (give take 0) (y .answer)) (y .after)) (takes-none 1) (alone.asks alone.begins (give take 0) refl);
+  exactly = record { numbers = of-order slip 0; slips = λ m i. absurd i };
+  ends = tt;
+}
+can-be-met slip (suc n) most w = heard (as-workshop (can-be-written originator chat (are-names .0) (are-names .1) slip (suc n) most w (omega arith)))

@@ -3,6 +3,6 @@ pub mod Rising
 pub mod OneRow
 pub mod Workshops
 pub mod Sentence
-pub mod EveryCount
 pub mod Nought
+pub mod EveryCount
 pub mod Worked
