@@ -538,8 +538,8 @@ impl Arrival {
     }
 }
 
-/// Document 02, W14: two workshops hear the messages 1 to n of one stream, each in an order of its own, with takes strewn in, calls on another
-/// stream between, and at the end takes until nothing comes. The script is made only if both lists are 1 to n in order.
+/// Document 02, W14: the messages 1 to n come to two streams of one table, which stand for two workshops, in an order of their own each, with takes
+/// strewn in, calls on other streams between, and at the end takes until nothing comes. The script is made only if both lists are 1 to n in order.
 fn arrivals(d: &mut Dice, out: &mut Script) {
     out.say(&["load", "SE%00"]);
     let n = 1 + d.roll(40);

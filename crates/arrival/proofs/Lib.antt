@@ -4,5 +4,5 @@ pub mod OneRow
 pub mod Workshops
 pub mod Sentence
 pub mod Nought
-pub mod EveryCount
+pub mod CanBeMet
 pub mod Worked

@@ -96,13 +96,13 @@ good (asks {h} {s} x c w) = record { keeps-rules = call-keeps s (good x .keeps-r
 
 -- ---- a last call that gave nothing
 
-take-gives : (h : History) (s : Stream) → Sound h s → (m : Held) (rest : List Held) (time : ℕ) → s .held ≡ m ∷ rest → m .number ≡ next h → row.take s time .answer ≡ given (m .number) (m .slip)
+next-is-taken : (h : History) (s : Stream) → Sound h s → (m : Held) (rest : List Held) (time : ℕ) → s .held ≡ m ∷ rest → m .number ≡ next h → row.take s time .answer ≡ given (m .number) (m .slip)
 unfolding row.take
-take-gives h s k m rest time e q = rw (e, is-due h s k m rest e time (inl q))
+next-is-taken h s k m rest time e q = rw (e, is-due h s k m rest e time (inl q))
 
-force-gives : (s : Stream) (m : Held) (rest : List Held) (time : ℕ) → s .held ≡ m ∷ rest → row.force s time .answer ≡ given (m .number) (m .slip)
+lowest-is-forced : (s : Stream) (m : Held) (rest : List Held) (time : ℕ) → s .held ≡ m ∷ rest → row.force s time .answer ≡ given (m .number) (m .slip)
 unfolding row.force
-force-gives s m rest time e = rw e
+lowest-is-forced s m rest time e = rw e
 
 module _ (h : History) (s : Stream) (k : Sound h s) (before : GaveNothing h → Quiet h (s .held)) where
   abbrev Leaves : Call → Outcome Stream → Type 0
@@ -121,10 +121,10 @@ module _ (h : History) (s : Stream) (k : Sound h s) (before : GaveNothing h → 
   quiet-step (offer m time) = by-offer s (Leaves (offer m time)) time m before before before (λ a b c g. absurd g)
   quiet-step (give take time) =
       by-take s (λ o. row.take s time ≡ o → Leaves (give take time) o) time
-      (λ q g. stayed time (row.take s time .answer) (λ m rest is. take-gives h s k m rest time is) (ap (λ (o : Outcome Stream). o .answer) (sym q))) (λ m rest is d q g. absurd g) refl
+      (λ q g. stayed time (row.take s time .answer) (λ m rest is. next-is-taken h s k m rest time is) (ap (λ (o : Outcome Stream). o .answer) (sym q))) (λ m rest is d q g. absurd g) refl
   quiet-step (give force time) =
       by-force s (λ o. row.force s time ≡ o → Leaves (give force time) o) time
-      (λ q g. stayed time (row.force s time .answer) (λ m rest is e. force-gives s m rest time is) (ap (λ (o : Outcome Stream). o .answer) (sym q))) (λ m rest is q g. absurd g) refl
+      (λ q g. stayed time (row.force s time .answer) (λ m rest is e. lowest-is-forced s m rest time is) (ap (λ (o : Outcome Stream). o .answer) (sym q))) (λ m rest is q g. absurd g) refl
   quiet-step close = go (s .held) refl
     where
       go : (l : List Held) → s .held ≡ l → Leaves close (closing s l)

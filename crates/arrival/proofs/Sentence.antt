@@ -1,18 +1,17 @@
 -- DOCUMENT 02'S SENTENCE: a workshop as it is written there accepted what it was offered, so its list is 1 to n in order; timeout 0 and no force are not needed for it.
 use Prim.Native.Nat.{ℕ}
 use mathlib.Core.Path.{_≡_, refl, ap, _∙_, subst, sym}
-use mathlib.Core.Bool.{Bool, true, false}
 use mathlib.Core.List.{List}
-use Rattle.octets.specs.Words.{if_then_else_}
+use Rattle.octets.proofs.Tests.{if-yes, if-no}
 use Rattle.keys.specs.declared.Key.{Key}
-use Rattle.keys.specs.Key.{sameKey, namedOf}
 use Rattle.places.specs.declared.Held.{Held}
 use Rattle.rows.specs.Answer.{Answer, accepted, given, nothing, refused}
 use Rattle.streams.specs.declared.Table.{Table}
 use Rattle.history.specs.History.{take, force, History, takenIn}
-use Rattle.history.specs.Chain.{Call, offer, give, close, asked, Log, noted, mine, Chain, begins, asks, loads-own, loads-other, loads-none}
+use Rattle.history.specs.Chain.{Call, offer, give, close, asked, Log, noted, mine, Chain, asks, loads-none}
 use Rattle.arrival.specs.Arrival.{Exactly}
-use Rattle.arrival.specs.Workshops.{Workshop, OneList, withOffer, offered, Allowed, AllAllowed, AsWritten}
+use Rattle.arrival.specs.Workshops.{Workshop, OneList, withOffer, Allowed, OnFresh, no-row-yet, on-it, on-another, load-refused, AsWritten}
+use Rattle.history.proofs.Demand3.{no-row-no-history}
 use Rattle.arrival.proofs.Workshops.{one-list}
 
 -- an allowed call adds to what is taken in exactly the message that it offers
@@ -25,29 +24,25 @@ adds h (give take time) (refused n) w = refl
 adds h (give force time) a w = absurd w
 adds h close a w = absurd w
 
-pub all-taken-in : (k : Key) {l : Log} {t : Table} (x : Chain l t) → AllAllowed k x → takenIn (mine k l) ≡ offered k l
-all-taken-in k begins w = refl
-all-taken-in k (asks {l} {t} x o s c v) w = go (sameKey k (namedOf o s .key)) (w .0) (all-taken-in k x (w .1))
-  where
-    go : (b : Bool) → (b ≡ true → Allowed c (asked t o s c .answer)) → takenIn (mine k l) ≡ offered k l
-        → takenIn (if b then noted (mine k l) c (asked t o s c .answer) else mine k l) ≡ (if b then withOffer (offered k l) c else offered k l)
-    go true f e = adds (mine k l) c (asked t o s c .answer) (f refl) ∙ ap (λ (y : List Held). withOffer y c) e
-    go false f e = e
-all-taken-in k (loads-own x y image s) w = absurd w
-all-taken-in k (loads-other x image e) w = absurd w
-all-taken-in k (loads-none x image n e) w = all-taken-in k x w
+module _ {k : Key} where
+  pub chain-of : {l : Log} {t : Table} {m : List Held} → OnFresh k l t m → Chain l t
+  chain-of (no-row-yet x e) = x
+  chain-of (on-it y o s c w e a) = asks (chain-of y) o s c w
+  chain-of (on-another y o s c w e) = asks (chain-of y) o s c w
+  chain-of (load-refused y image n e) = loads-none (chain-of y) image n e
 
-abbrev pub as-workshop : {k : Key} {n : ℕ} {slip : ℕ → ℕ} → AsWritten k n slip → Workshop k n slip
-as-workshop {k} {n} {slip} x =
-    record {
-      log = x .log;
-      table = x .table;
-      chain = x .chain;
-      exactly = subst (Exactly n slip) (sym (all-taken-in k (x .chain) (x .allowed))) (x .offers);
-      ends = x .ends;
-    }
+  -- so what was offered is what was accepted
+  pub all-taken-in : {l : Log} {t : Table} {m : List Held} → OnFresh k l t m → takenIn (mine k l) ≡ m
+  all-taken-in (no-row-yet x e) = ap takenIn (no-row-no-history x k e)
+  all-taken-in (on-it {l} {t} y o s c w e a) = ap takenIn (if-yes _ _ _ e) ∙ adds (mine k l) c (asked t o s c .answer) a ∙ ap (λ (z : List Held). withOffer z c) (all-taken-in y)
+  all-taken-in (on-another y o s c w e) = ap takenIn (if-no _ _ _ e) ∙ all-taken-in y
+  all-taken-in (load-refused y image n e) = all-taken-in y
 
--- ---- THE COROLLARY
+  abbrev pub as-workshop : {n : ℕ} {slip : ℕ → ℕ} → AsWritten k n slip → Workshop k n slip
+  as-workshop {n} {slip} x =
+      record { log = x .log; table = x .table; chain = chain-of (x .fresh); exactly = subst (Exactly n slip) (sym (all-taken-in (x .fresh))) (x .offers); ends = x .ends }
 
-pub as-written : {k : Key} {n : ℕ} {slip : ℕ → ℕ} (here there : AsWritten k n slip) → OneList k n slip (here .log) (there .log)
-as-written here there = one-list (record { here = as-workshop here; there = as-workshop there })
+  -- ---- THE COROLLARY
+
+  pub as-written : {n : ℕ} {slip : ℕ → ℕ} (here there : AsWritten k n slip) → OneList k n slip (here .log) (there .log)
+  as-written here there = one-list (record { here = as-workshop here; there = as-workshop there })

@@ -21,6 +21,7 @@ use Rattle.rows.proofs.Rules.{kept-row, keep, unpacks}
 use Rattle.rows.proofs.Keeps.{fresh-keeps}
 use Rattle.lookups.specs.declared.Lookup.{Lookup}
 use Rattle.streams.specs.declared.Table.{Table}
+use Rattle.streams.specs.Table.{keepsTable}
 use Rattle.streams.specs.Calls.{lookUp}
 use Rattle.streams.specs.Meaning.{rowFor}
 use Rattle.streams.proofs.Alone.{Does, named-is}
@@ -33,24 +34,29 @@ use Rattle.history.proofs.Serves.{as-row, row-keeps}
 use Rattle.history.proofs.Demand3.{rules-kept, own-row, own-answer, no-row-no-history}
 use Rattle.arrival.specs.Arrival.{inOrder, Alone, brought, Heard}
 use Rattle.arrival.specs.Arrival as alone
-use Rattle.arrival.specs.Workshops.{Workshop, Two, list, OneList}
+use Rattle.arrival.specs.Workshops.{Workshop, Two, listOf, OneList}
 use Rattle.arrival.proofs.OneRow.{good, one-row}
 
 -- ---- a call on the table is refused, or is answered as the row by itself answers it after its own history
 
--- refused
-abbrev Refused : Answer → Type 0
-Refused a = (n : ℕ) × (a ≡ refused n)
+-- names that are no names are refused before any row is looked for
+pub refused-or-named : (t : Table) (o s : List ℕ) (c : Call) → keepsTable t ≡ true → ((n : ℕ) × (asked t o s c ≡ refuse n t)) ⊎ ((callsign o ≡ true) × (streamId s ≡ true))
+refused-or-named t o s c e = go (callsign o) (streamId s) refl refl
+  where
+    refuses : (n : ℕ) (c : Call) → lookUp t (namedOf o s) ≡ Lookup.Refused n → asked t o s c ≡ refuse n t
+    refuses n (offer m time) f = rw f
+    refuses n (give take time) f = rw f
+    refuses n (give force time) f = rw f
+    refuses n close f = rw f
 
-by-names : (t : Table) (o s : List ℕ) (n : ℕ) → lookUp t (namedOf o s) ≡ Lookup.Refused n → (c : Call) → asked t o s c .answer ≡ refused n
-by-names t o s n e (offer m time) = rw e
-by-names t o s n e (give take time) = rw e
-by-names t o s n e (give force time) = rw e
-by-names t o s n e close = rw e
+    go : (a b : Bool) → callsign o ≡ a → streamId s ≡ b → ((n : ℕ) × (asked t o s c ≡ refuse n t)) ⊎ ((callsign o ≡ true) × (streamId s ≡ true))
+    go false b p q = inl (noCallsign, refuses noCallsign c (unknown.no-callsign t o s e p))
+    go true false p q = inl (streamIdMalformed, refuses streamIdMalformed c (unknown.no-stream-id t o s e p q))
+    go true true p q = inr (p, q)
 
 module _ {l : Log} {t : Table} (x : Chain l t) (o s : List ℕ) where
   abbrev As : Key → Call → Type 0
-  As k c = Refused (asked t o s c .answer) ⊎ (asked t o s c .answer ≡ rowCall (replay (mine k l)) c .answer)
+  As k c = ((n : ℕ) × (asked t o s c ≡ refuse n t)) ⊎ (asked t o s c .answer ≡ rowCall (replay (mine k l)) c .answer)
 
   -- a stream without a row has no history, and its first offer is made on a fresh row
   module _ (p : callsign o ≡ true) (q : streamId s ≡ true) (f : rowFor (keyOf o s) t ≡ none) where
@@ -61,24 +67,22 @@ module _ {l : Log} {t : Table} (x : Chain l t) (o s : List ℕ) where
         on-fresh = rw (no-row-no-history x (keyOf o s) f) (ap (λ (y : Outcome Row). y .answer) (if-yes _ _ _ fresh-keeps) ∙ ap (λ (y : Stream). row.offer y m time .answer) (unpacks fresh))
 
         go : ((n : ℕ) × (asked t o s (offer m time) ≡ refuse n t)) ⊎ Does (keyOf o s) (offerOf (rowOf fresh) m time) (asked t o s (offer m time)) → As (keyOf o s) (offer m time)
-        go (inl y) = inl (y .0, ap (λ (z : Outcome Table). z .answer) (y .1))
+        go (inl y) = inl y
         go (inr y) = inr (y .answer ∙ on-fresh)
-    no-row (give take time) = inl (noSuchStream, ap (λ (y : Outcome Table). y .answer) (unknown.take-unknown t o s (rules-kept x) p q f time))
-    no-row (give force time) = inl (noSuchStream, ap (λ (y : Outcome Table). y .answer) (unknown.force-unknown t o s (rules-kept x) p q f time))
-    no-row close = inl (noSuchStream, ap (λ (y : Outcome Table). y .answer) (unknown.close-unknown t o s (rules-kept x) p q f))
+    no-row (give take time) = inl (noSuchStream, unknown.take-unknown t o s (rules-kept x) p q f time)
+    no-row (give force time) = inl (noSuchStream, unknown.force-unknown t o s (rules-kept x) p q f time)
+    no-row close = inl (noSuchStream, unknown.close-unknown t o s (rules-kept x) p q f)
 
   as-row-answers : (c : Call) → As (namedOf o s .key) c
-  as-row-answers c = go (callsign o) (streamId s) refl refl
+  as-row-answers c = go (refused-or-named t o s c (rules-kept x))
     where
-      named : (p : callsign o ≡ true) (q : streamId s ≡ true) (y : Option Row) → rowFor (keyOf o s) t ≡ y → As (keyOf o s) c
-      named p q none f = no-row p q f c
-      named p q (just r) f = inr (own-answer x o s p q r f c)
+      by-row : (p : callsign o ≡ true) (q : streamId s ≡ true) (y : Option Row) → rowFor (keyOf o s) t ≡ y → As (keyOf o s) c
+      by-row p q none f = no-row p q f c
+      by-row p q (just r) f = inr (own-answer x o s p q r f c)
 
-      go : (a b : Bool) → callsign o ≡ a → streamId s ≡ b → As (namedOf o s .key) c
-      go false b p q = inl (noCallsign, by-names t o s noCallsign (unknown.no-callsign t o s (rules-kept x) p) c)
-      go true false p q = inl (streamIdMalformed, by-names t o s streamIdMalformed (unknown.no-stream-id t o s (rules-kept x) p q) c)
-      go true true p q = let k : namedOf o s .key ≡ keyOf o s = ap (λ y. y .key) (named-is o s p q) in
-          subst (λ (j : Key). As j c) (sym k) (named p q (rowFor (keyOf o s) t) refl)
+      go : ((n : ℕ) × (asked t o s c ≡ refuse n t)) ⊎ ((callsign o ≡ true) × (streamId s ≡ true)) → As (namedOf o s .key) c
+      go (inl y) = inl y
+      go (inr y) = subst (λ (j : Key). As j c) (sym (ap (λ z. z .key) (named-is o s (y .0) (y .1)))) (by-row (y .0) (y .1) (rowFor (keyOf o s) t) refl)
 
 -- equal keys have one row, and so histories that lead to one row
 same-row : {l : Log} {t : Table} → Chain l t → (j k : Key) → sameKey j k ≡ true → replay (mine j l) ≡ replay (mine k l)
@@ -100,17 +104,13 @@ row-of (asks {l} {t} x o s c w) k = go (sameKey k (namedOf o s .key)) refl (row-
     answer : Answer
     answer = asked t o s c .answer
 
-    on : Alone (mine k l) (replay (mine k l)) → Refused answer ⊎ (answer ≡ rowCall (replay (mine k l)) c .answer) → Alone (noted (mine k l) c answer) (replay (noted (mine k l) c answer))
-    on a (inl y) = rw (y .1) a
-    on a (inr y) = rw y (leads (alone.asks a c w))
-
-    own : sameKey k (namedOf o s .key) ≡ true → Refused answer ⊎ (answer ≡ rowCall (replay (mine (namedOf o s .key) l)) c .answer) → Refused answer ⊎ (answer ≡ rowCall (replay (mine k l)) c .answer)
-    own e (inl y) = inl y
-    own e (inr y) = inr (y ∙ ap (λ (z : Stream). rowCall z c .answer) (sym (same-row x k (namedOf o s .key) e)))
+    on : Alone (mine k l) (replay (mine k l)) → As x o s (namedOf o s .key) c → sameKey k (namedOf o s .key) ≡ true → Alone (noted (mine k l) c answer) (replay (noted (mine k l) c answer))
+    on a (inl y) e = let z : answer ≡ refused (y .0) = ap (λ (v : Outcome Table). v .answer) (y .1) in rw z a
+    on a (inr y) e = rw (y ∙ ap (λ (z : Stream). rowCall z c .answer) (sym (same-row x k (namedOf o s .key) e))) (leads (alone.asks a c w))
 
     go : (b : Bool) → sameKey k (namedOf o s .key) ≡ b → Alone (mine k l) (replay (mine k l))
         → Alone (if b then noted (mine k l) c answer else mine k l) (replay (if b then noted (mine k l) c answer else mine k l))
-    go true e a = on a (own e (as-row-answers x o s c))
+    go true e a = on a (as-row-answers x o s c) e
     go false e a = a
 row-of (loads-own x y image s) k = row-of y k
 row-of (loads-other {l} {t} x image e) k = go (rowFor k u) refl
@@ -129,7 +129,7 @@ row-of (loads-none x image n e) k = row-of x k
 abbrev pub heard : {k : Key} {n : ℕ} {slip : ℕ → ℕ} → Workshop k n slip → Heard n slip
 heard {k} x = record { history = mine k (x .log); row = replay (mine k (x .log)); alone = row-of (x .chain) k; exactly = x .exactly; ends = x .ends }
 
-pub gives-in-order : {k : Key} {n : ℕ} {slip : ℕ → ℕ} (x : Workshop k n slip) → list k (x .log) ≡ inOrder n slip
+pub gives-in-order : {k : Key} {n : ℕ} {slip : ℕ → ℕ} (x : Workshop k n slip) → listOf k (x .log) ≡ inOrder n slip
 gives-in-order x = one-row (heard x) .gave
 
 pub holds-none : {k : Key} {n : ℕ} {slip : ℕ → ℕ} (x : Workshop k n slip) (r : Row) → rowFor k (x .table) ≡ just r → heldIn r ≡ []

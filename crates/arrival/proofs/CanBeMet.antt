@@ -24,23 +24,22 @@ use Rattle.rows.specs.Stream as row
 use Rattle.rows.proofs.Rules.{unpacks}
 use Rattle.rows.proofs.Keeps.{fresh-keeps}
 use Rattle.streams.specs.declared.Table.{Table}
-use Rattle.streams.specs.Table.{empty}
+use Rattle.streams.specs.Table.{empty, hasKey}
 use Rattle.streams.specs.Meaning.{rowFor}
 use Rattle.streams.proofs.Alone.{named-is}
 use Rattle.streams.proofs.Unknown as unknown
-use Rattle.history.specs.History.{take, Event, accepts, gives-nothing, History, opened, restored, _▷_, takenIn, numbered, In}
+use Rattle.history.specs.History.{take, Event, accepts, gives-nothing, History, opened, restored, _▷_, numbered, In}
 use Rattle.history.specs.Chain.{Call, offer, give, small, asked, Log, answered, noted, mine, Chain, begins, asks, rowCall, replay}
 use Rattle.history.specs.Cards.{originator, chat}
 use Rattle.history.proofs.Counting.{held-append}
 use Rattle.history.proofs.Demand3.{rules-kept, own-answer, no-row-no-history}
 use Rattle.arrival.specs.Arrival.{Exactly, GaveNothing, Heard}
 use Rattle.arrival.specs.Arrival as alone
-use Rattle.arrival.specs.Workshops.{AllAllowed, AsWritten}
+use Rattle.arrival.specs.Workshops.{OnFresh, no-row-yet, on-it, AsWritten}
 use Rattle.arrival.proofs.Rising.{one-more, of-order}
 use Rattle.arrival.proofs.OneRow.{good}
 use Rattle.arrival.proofs.Workshops.{row-of, heard}
-use Rattle.arrival.proofs.Sentence.{all-taken-in, as-workshop}
-use Rattle.arrival.proofs.Nought.{no-row}
+use Rattle.arrival.proofs.Sentence.{chain-of, as-workshop}
 
 -- ---- the row that expects e and holds nothing, its next message, and a take after it
 
@@ -75,6 +74,10 @@ unfolding row.take
 takes-none e = refl
 
 -- ---- on the table
+
+pub empty-row : (k : Key) → rowFor k empty ≡ none
+unfolding hasKey
+empty-row k = refl
 
 module _ (o s : List ℕ) (p : callsign o ≡ true) (q : streamId s ≡ true) where
   abbrev k : Key
@@ -111,17 +114,17 @@ module _ (o s : List ℕ) (p : callsign o ≡ true) (q : streamId s ≡ true) wh
   -- an empty table opens a row for the first
   first-answer : (m : Held) → 1 ≤ m .number → asked empty o s (offer m 0) .answer ≡ row.offer fresh m 0 .answer
   first-answer m low =
-      unknown.offer-opens empty o s (rules-kept begins) p q (no-row begins k tt refl) m 0 low 0 refl .answer
+      unknown.offer-opens empty o s (rules-kept begins) p q (empty-row k) m 0 low 0 refl .answer
       ∙ ap (λ (y : Outcome Row). y .answer) (if-yes _ _ _ fresh-keeps) ∙ ap (λ (y : Stream). row.offer y m 0 .answer) (unpacks fresh)
 
   -- 1 to i came and were taken; the next offer will be answered as the row by itself answers it, and from 1 on there is a history, and so a row
   record Came (slip : ℕ → ℕ) (i : ℕ) : Type 0 where
     log : Log
     table : Table
-    chain : Chain log table
-    allowed : AllAllowed k chain
+    messages : List Held
+    on-fresh : OnFresh k log table messages
+    exactly : Exactly i slip messages
     row-is : replay (mine k log) ≡ at (i + 1)
-    exactly : Exactly i slip (takenIn (mine k log))
     answers : (m : Held) → 1 ≤ m .number → asked table o s (offer m 0) .answer ≡ row.offer (replay (mine k log)) m 0 .answer
     begun : 1 ≤ i → (h : History) × (e : Event) × (mine k log ≡ h ▷ e)
 
@@ -133,23 +136,25 @@ module _ (o s : List ℕ) (p : callsign o ≡ true) (q : streamId s ≡ true) wh
     next-came i le x =
         let m = message slip i in
         let small-m = message-small i le in
-        let given-m : Outcome Stream = record { answer = given (i + 1) (slip (i + 1)); after = at ((i + 1) + 1) } in
         let held-m : Outcome Stream = record { answer = accepted; after = holding (i + 1) m } in
+        let given-m : Outcome Stream = record { answer = given (i + 1) (slip (i + 1)); after = at ((i + 1) + 1) } in
+        let before = chain-of (x .on-fresh) in
         let a = x .answers m (omega arith) in
         let e = ap (λ (y : Stream). row.offer y m 0) (x .row-is) ∙ offers-next slip i in
-        let h = history-is (x .chain) (offer m 0) small-m held-m a e in
-        let offered-m = asks (x .chain) o s (offer m 0) small-m in
-        let b = by-row offered-m (mine k (x .log)) (accepts m 0) h (give take 0) in
-        let f = ap (λ (y : Stream). row.take y 0) (row-after (x .chain) (offer m 0) small-m held-m a e) ∙ takes-next slip i in
-        let g = history-is offered-m (give take 0) refl given-m b f in
+        let h = history-is before (offer m 0) small-m held-m a e in
+        let with-m = on-it (x .on-fresh) o s (offer m 0) small-m own (refl, says before (offer m 0) small-m held-m a e) in
+        let b = by-row (chain-of with-m) (mine k (x .log)) (accepts m 0) h (give take 0) in
+        let f = ap (λ (y : Stream). row.take y 0) (row-after before (offer m 0) small-m held-m a e) ∙ takes-next slip i in
+        let g = history-is (chain-of with-m) (give take 0) refl given-m b f in
+        let after-m = on-it with-m o s (give take 0) refl own tt in
         record {
           log = _;
           table = _;
-          chain = asks offered-m o s (give take 0) refl;
-          allowed = ((λ z. tt), ((λ z. (refl, says (x .chain) (offer m 0) small-m held-m a e)), x .allowed));
-          row-is = row-after offered-m (give take 0) refl given-m b f ∙ (let z : (i + 1) + 1 ≡ suc i + 1 = omega arith in ap at z);
-          exactly = subst (Exactly (suc i) slip) (sym (ap takenIn g ∙ ap takenIn h)) (one-more-exactly slip i _ (x .exactly));
-          answers = λ y low. by-row (asks offered-m o s (give take 0) refl) _ _ g (offer y 0);
+          messages = x .messages ++ (m ∷ []);
+          on-fresh = after-m;
+          exactly = one-more-exactly slip i (x .messages) (x .exactly);
+          row-is = row-after (chain-of with-m) (give take 0) refl given-m b f ∙ (let z : (i + 1) + 1 ≡ suc i + 1 = omega arith in ap at z);
+          answers = λ y low. by-row (chain-of after-m) _ _ g (offer y 0);
           begun = λ low. (_, _, g);
         }
 
@@ -157,10 +162,10 @@ module _ (o s : List ℕ) (p : callsign o ≡ true) (q : streamId s ≡ true) wh
     came zero le = record {
       log = _;
       table = _;
-      chain = begins;
-      allowed = tt;
-      row-is = refl;
+      messages = [];
+      on-fresh = no-row-yet begins (empty-row k);
       exactly = record { numbers = of-order slip 0; slips = λ m i. absurd i };
+      row-is = refl;
       answers = first-answer;
       begun = λ low. absurd (omega arith);
     }
@@ -170,17 +175,16 @@ module _ (o s : List ℕ) (p : callsign o ≡ true) (q : streamId s ≡ true) wh
     can-be-written low =
         let x = came n (omega arith) in
         let begun = x .begun low in
-        let a = by-row (x .chain) (begun .0) (begun .1) (begun .2) (give take 0) in
+        let before = chain-of (x .on-fresh) in
+        let a = by-row before (begun .0) (begun .1) (begun .2) (give take 0) in
         let e = ap (λ (y : Stream). row.take y 0) (x .row-is) ∙ takes-none (n + 1) in
-        let g = history-is (x .chain) (give take 0) refl (row.stay (at (n + 1)) 0) a e in
-        let asked-all = asks (x .chain) o s (give take 0) refl in
-        let allowed : AllAllowed k asked-all = ((λ z. tt), x .allowed) in
+        let g = history-is before (give take 0) refl (row.stay (at (n + 1)) 0) a e in
         record {
           log = _;
           table = _;
-          chain = asked-all;
-          offers = subst (Exactly n slip) (sym (ap takenIn g) ∙ all-taken-in k asked-all allowed) (x .exactly);
-          allowed = allowed;
+          messages = x .messages;
+          fresh = on-it (x .on-fresh) o s (give take 0) refl own tt;
+          offers = x .exactly;
           ends = subst GaveNothing (sym g) tt;
         }
 
