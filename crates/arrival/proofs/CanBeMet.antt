@@ -102,13 +102,13 @@ module _ (o s : List ℕ) (p : callsign o ≡ true) (q : streamId s ≡ true) wh
   by-row : {l : Log} {t : Table} → Chain l t → (h : History) (e : Event) → mine k l ≡ h ▷ e → (c : Call) → asked t o s c .answer ≡ rowCall (replay (mine k l)) c .answer
   by-row {l} {t} x h e is c = go (rowFor k t) refl
     where
-      begun : History → Type 0
-      begun opened = ⊥
-      begun (restored r) = Unit {0}
-      begun (g ▷ d) = Unit {0}
+      HasEvent : History → Type 0
+      HasEvent opened = ⊥
+      HasEvent (restored r) = Unit {0}
+      HasEvent (g ▷ d) = Unit {0}
 
       go : (y : Option Row) → rowFor k t ≡ y → asked t o s c .answer ≡ rowCall (replay (mine k l)) c .answer
-      go none f = absurd (subst begun (sym is ∙ no-row-no-history x k f) tt)
+      go none f = absurd (subst HasEvent (sym is ∙ no-row-no-history x k f) tt)
       go (just r) f = own-answer x o s p q r f c
 
   -- an empty table opens a row for the first
@@ -121,9 +121,9 @@ module _ (o s : List ℕ) (p : callsign o ≡ true) (q : streamId s ≡ true) wh
   record Came (slip : ℕ → ℕ) (i : ℕ) : Type 0 where
     log : Log
     table : Table
-    messages : List Held
-    on-fresh : OnFresh k log table messages
-    exactly : Exactly i slip messages
+    offers : List Held
+    on-fresh : OnFresh k log table offers
+    exactly : Exactly i slip offers
     row-is : replay (mine k log) ≡ at (i + 1)
     answers : (m : Held) → 1 ≤ m .number → asked table o s (offer m 0) .answer ≡ row.offer (replay (mine k log)) m 0 .answer
     begun : 1 ≤ i → (h : History) × (e : Event) × (mine k log ≡ h ▷ e)
@@ -150,9 +150,9 @@ module _ (o s : List ℕ) (p : callsign o ≡ true) (q : streamId s ≡ true) wh
         record {
           log = _;
           table = _;
-          messages = x .messages ++ (m ∷ []);
+          offers = x .offers ++ (m ∷ []);
           on-fresh = after-m;
-          exactly = one-more-exactly slip i (x .messages) (x .exactly);
+          exactly = one-more-exactly slip i (x .offers) (x .exactly);
           row-is = row-after (chain-of with-m) (give take 0) refl given-m b f ∙ (let z : (i + 1) + 1 ≡ suc i + 1 = omega arith in ap at z);
           answers = λ y low. by-row (chain-of after-m) _ _ g (offer y 0);
           begun = λ low. (_, _, g);
@@ -162,7 +162,7 @@ module _ (o s : List ℕ) (p : callsign o ≡ true) (q : streamId s ≡ true) wh
     came zero le = record {
       log = _;
       table = _;
-      messages = [];
+      offers = [];
       on-fresh = no-row-yet begins (empty-row k);
       exactly = record { numbers = of-order slip 0; slips = λ m i. absurd i };
       row-is = refl;
@@ -182,9 +182,9 @@ module _ (o s : List ℕ) (p : callsign o ≡ true) (q : streamId s ≡ true) wh
         record {
           log = _;
           table = _;
-          messages = x .messages;
-          fresh = on-it (x .on-fresh) o s (give take 0) refl own tt;
-          offers = x .exactly;
+          offers = x .offers;
+          on-fresh = on-it (x .on-fresh) o s (give take 0) refl own tt;
+          exactly = x .exactly;
           ends = subst GaveNothing (sym g) tt;
         }
 

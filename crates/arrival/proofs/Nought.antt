@@ -1,5 +1,5 @@
 -- W14 with n = 0: on a row by itself the empty list (`can-be-met`, `one-row`). In the table a stream that had no row, and of which nothing was offered
--- since, still has none: a take of it is refused with 14, and no workshop is as written.
+-- since, still has none: a take of it is refused with 14, what was given out is the empty list, and no workshop is as written.
 use Prim.Native.Nat.{ℕ}
 use native.Mathlib.Omega.{arith}
 use mathlib.Core.Path.{_≡_, refl, sym, ap, _∙_, subst}
@@ -21,13 +21,13 @@ use Rattle.streams.proofs.Others.{move-others}
 use Rattle.streams.proofs.Alone.{named-is}
 use Rattle.streams.proofs.Unknown as unknown
 use Rattle.image.proofs.Keeps as saved
-use Rattle.history.specs.History.{take, force}
+use Rattle.history.specs.History.{take, force, givenOut}
 use Rattle.history.specs.Chain.{Call, offer, give, close, asked, Log, Chain}
 use Rattle.history.proofs.Counting.{bit-is}
 use Rattle.history.proofs.Serves.{as-row, asked-moves}
 use Rattle.history.proofs.Demand3.{rules-kept, no-row-no-history}
 use Rattle.arrival.specs.Arrival.{Exactly, GaveNothing}
-use Rattle.arrival.specs.Workshops.{withOffer, Allowed, OnFresh, no-row-yet, on-it, on-another, load-refused, AsWritten}
+use Rattle.arrival.specs.Workshops.{listOf, withOffer, Allowed, OnFresh, no-row-yet, on-it, on-another, load-refused, AsWritten}
 use Rattle.arrival.proofs.Rising.{at-most}
 use Rattle.arrival.proofs.Workshops.{refused-or-named}
 use Rattle.arrival.proofs.Sentence.{chain-of}
@@ -69,7 +69,11 @@ none-offered slip (m ∷ l) e =
 pub nought-is-14 : {l : Log} {t : Table} (o s : List ℕ) → callsign o ≡ true → streamId s ≡ true → OnFresh (keyOf o s) l t [] → (time : ℕ) → asked t o s (give take time) ≡ refuse noSuchStream t
 nought-is-14 {l} {t} o s p q x time = unknown.take-unknown t o s (rules-kept (chain-of x)) p q (still-no-row x refl) time
 
--- so with n = 0 no call can end the sentence's calls
+-- and what was given out is the empty list
+pub nought-list : {k : Key} {l : Log} {t : Table} → OnFresh k l t [] → listOf k l ≡ []
+nought-list {k} x = ap givenOut (no-row-no-history (chain-of x) k (still-no-row x refl))
+
+-- so with n = 0 no call ends as the sentence says
 pub none-as-written : {k : Key} {slip : ℕ → ℕ} → AsWritten k 0 slip → ⊥
 none-as-written {k} {slip} x =
-    subst GaveNothing (no-row-no-history (chain-of (x .fresh)) k (still-no-row (x .fresh) (none-offered slip (x .messages) (x .offers)))) (x .ends)
+    subst GaveNothing (no-row-no-history (chain-of (x .on-fresh)) k (still-no-row (x .on-fresh) (none-offered slip (x .offers) (x .exactly)))) (x .ends)

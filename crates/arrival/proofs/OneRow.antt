@@ -25,9 +25,9 @@ use Rattle.arrival.proofs.Rising.{of-each, at-most, none-astray, is-in-
 -- ---- of any history that demand 3 holds of
 
 -- the lowest held is not the next
-abbrev pub Quiet : History → List Held → Type 0
-Quiet h [] = Unit {0}
-Quiet h (m ∷ rest) = m .number ≡ next h → ⊥
+abbrev pub NotNext : History → List Held → Type 0
+NotNext h [] = Unit {0}
+NotNext h (m ∷ rest) = m .number ≡ next h → ⊥
 
 -- what was given out is below the next
 given-below : (h : History) → Fair h → Within 0 (next h) (givenOut h)
@@ -39,7 +39,7 @@ given-below (h ▷ gives-nothing time) f = given-below h f
 
 module _ (n : ℕ) (slip : ℕ → ℕ) (h : History) (low : 1 ≤ next h) (e : Exactly n slip (takenIn h)) where
   -- the next number, not above n, was accepted; it was not given out, and what is held begins above it
-  none-held : (held : List Held) → Ordered h held → Quiet h held → held ≡ []
+  none-held : (held : List Held) → Ordered h held → NotNext h held → held ≡ []
   none-held [] d q = refl
   none-held (m ∷ rest) d q =
       let first : next h ≤ m .number = first-low (next h) m rest (d .waits) in
@@ -56,7 +56,7 @@ module _ (n : ℕ) (slip : ℕ → ℕ) (h : History) (low : 1 ≤ next h) (e : 
         count-high (next h) 0 (next h) (givenOut h) (omega arith) (given-below h (d .fair)),
       ))
 
-  pub all-out : (held : List Held) → Ordered h held → Quiet h held → AllOut n slip h held
+  pub all-out : (held : List Held) → Ordered h held → NotNext h held → AllOut n slip h held
   all-out held d q = record { gave = gave; holds = none }
     where
       none : held ≡ []
@@ -104,37 +104,37 @@ lowest-is-forced : (s : Stream) (m : Held) (rest : List Held) (time : ℕ) → s
 unfolding row.force
 lowest-is-forced s m rest time e = rw e
 
-module _ (h : History) (s : Stream) (k : Sound h s) (before : GaveNothing h → Quiet h (s .held)) where
+module _ (h : History) (s : Stream) (k : Sound h s) (before : GaveNothing h → NotNext h (s .held)) where
   abbrev Leaves : Call → Outcome Stream → Type 0
-  Leaves c o = GaveNothing (noted h c (o .answer)) → Quiet (noted h c (o .answer)) (o .after .held)
+  Leaves c o = GaveNothing (noted h c (o .answer)) → NotNext (noted h c (o .answer)) (o .after .held)
 
   -- a call that would give the next, and gave nothing
   stayed : (time : ℕ) (a : Answer) → ((m : Held) (rest : List Held) → s .held ≡ m ∷ rest → m .number ≡ next h → a ≡ given (m .number) (m .slip)) → nothing ≡ a
-      → Quiet (h ▷ gives-nothing time) (s .held)
+      → NotNext (h ▷ gives-nothing time) (s .held)
   stayed time a f e = go (s .held) refl
     where
-      go : (l : List Held) → s .held ≡ l → Quiet (h ▷ gives-nothing time) l
+      go : (l : List Held) → s .held ≡ l → NotNext (h ▷ gives-nothing time) l
       go [] is = tt
       go (m ∷ rest) is = λ q. let x = f m rest is q in let z : _≡_ {A = ℕ} 0 1 = cc in omega arith
 
-  quiet-step : (c : Call) → Leaves c (rowCall s c)
-  quiet-step (offer m time) = by-offer s (Leaves (offer m time)) time m before before before (λ a b c g. absurd g)
-  quiet-step (give take time) =
+  not-next-step : (c : Call) → Leaves c (rowCall s c)
+  not-next-step (offer m time) = by-offer s (Leaves (offer m time)) time m before before before (λ a b c g. absurd g)
+  not-next-step (give take time) =
       by-take s (λ o. row.take s time ≡ o → Leaves (give take time) o) time
       (λ q g. stayed time (row.take s time .answer) (λ m rest is. next-is-taken h s k m rest time is) (ap (λ (o : Outcome Stream). o .answer) (sym q))) (λ m rest is d q g. absurd g) refl
-  quiet-step (give force time) =
+  not-next-step (give force time) =
       by-force s (λ o. row.force s time ≡ o → Leaves (give force time) o) time
       (λ q g. stayed time (row.force s time .answer) (λ m rest is e. lowest-is-forced s m rest time is) (ap (λ (o : Outcome Stream). o .answer) (sym q))) (λ m rest is q g. absurd g) refl
-  quiet-step close = go (s .held) refl
+  not-next-step close = go (s .held) refl
     where
       go : (l : List Held) → s .held ≡ l → Leaves close (closing s l)
       go [] is = λ g. absurd g
       go (m ∷ l) is = before
 
-quiet : {h : History} {s : Stream} → Alone h s → GaveNothing h → Quiet h (s .held)
-quiet begins g = absurd g
-quiet (brought s e) g = absurd g
-quiet (asks {h} {s} x c w) g = quiet-step h s (good x .led .sound) (λ b. quiet x b) c g
+not-next : {h : History} {s : Stream} → Alone h s → GaveNothing h → NotNext h (s .held)
+not-next begins g = absurd g
+not-next (brought s e) g = absurd g
+not-next (asks {h} {s} x c w) g = not-next-step h s (good x .led .sound) (λ b. not-next x b) c g
 
 -- ---- THE THEOREM
 
@@ -142,4 +142,4 @@ pub one-row : {n : ℕ} {slip : ℕ → ℕ} (x : Heard n slip) → AllOut n sli
 one-row {n} {slip} x =
     let g = good (x .alone) in
     all-out n slip (x .history) (omega (arith, kept (x .row) (g .keeps-rules) .low, g .led .sound .tally .next-is)) (x .exactly) (x .row .held)
-    (ordered (x .history) (x .row) (g .led .sound)) (quiet (x .alone) (x .ends))
+    (ordered (x .history) (x .row) (g .led .sound)) (not-next (x .alone) (x .ends))

@@ -1,4 +1,5 @@
--- DOCUMENT 02'S SENTENCE: a workshop as it is written there accepted what it was offered, so its list is 1 to n in order; timeout 0 and no force are not needed for it.
+-- DOCUMENT 02'S SENTENCE: a workshop as it is written there accepted all that it was offered since its row was fresh, so it is a workshop of the
+-- theorem of any two chains.
 use Prim.Native.Nat.{ℕ}
 use mathlib.Core.Path.{_≡_, refl, ap, _∙_, subst, sym}
 use mathlib.Core.List.{List}
@@ -40,7 +41,7 @@ module _ {k : Key} where
 
   abbrev pub as-workshop : {n : ℕ} {slip : ℕ → ℕ} → AsWritten k n slip → Workshop k n slip
   as-workshop {n} {slip} x =
-      record { log = x .log; table = x .table; chain = chain-of (x .fresh); exactly = subst (Exactly n slip) (sym (all-taken-in (x .fresh))) (x .offers); ends = x .ends }
+      record { log = x .log; table = x .table; chain = chain-of (x .on-fresh); exactly = subst (Exactly n slip) (sym (all-taken-in (x .on-fresh))) (x .exactly); ends = x .ends }
 
   -- ---- THE COROLLARY
 

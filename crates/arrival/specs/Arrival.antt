@@ -17,7 +17,7 @@ pub record Exactly (n : ℕ) (slip : ℕ → ℕ) (l : List Held) : Type 0 where
   pub numbers : (i : ℕ) → countHeld (numbered i) l ≡ bit (between 1 n i)
   pub slips : (m : Held) → In m l → m .slip ≡ slip (m .number)
 
--- "at the end until nothing comes": the last call on the stream gave nothing. Refused calls are in no history, and do not count
+-- "at the end until nothing comes": the last call on the stream that was not refused gave nothing (refused calls are in no history)
 abbrev pub GaveNothing : History → Type 0
 GaveNothing opened = ⊥
 GaveNothing (restored s) = ⊥
@@ -39,7 +39,7 @@ pub data Alone : History → Stream → Type 0 where
   brought : (s : Stream) → keeps s ≡ true → Alone (restored s) s
   asks : {h : History} {s : Stream} → Alone h s → (c : Call) → small c ≡ true → Alone (noted h c (rowCall s c .answer)) (rowCall s c .after)
 
--- a row that accepted exactly 1 to n, and was asked until nothing came
+-- a row that accepted exactly 1 to n since it was opened or brought, and was asked until nothing came
 pub record Heard (n : ℕ) (slip : ℕ → ℕ) : Type 0 where
   pub history : History
   pub row : Stream

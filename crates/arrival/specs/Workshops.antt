@@ -18,11 +18,11 @@ use Rattle.arrival.specs.Arrival.{Exactly, GaveNothing, inOrder}
 
 -- ---- what a log says of the stream k
 
--- what was given out since its row opened, the oldest first
+-- what was given out since its row opened, or an image brought it, the oldest first
 abbrev pub listOf : Key → Log → List Sent
 listOf k l = givenOut (mine k l)
 
--- the messages of all offers made, refused ones too, the oldest first: more than the statement counts
+-- the messages of all offers made in a log without loads, refused ones too, the oldest first: more than the statement counts
 abbrev pub withOffer : List Held → Call → List Held
 withOffer l (offer m time) = l ++ (m ∷ [])
 withOffer l (give way time) = l
@@ -78,7 +78,7 @@ pub data OnFresh (k : Key) : Log → Table → List Held → Type 0 where
 pub record AsWritten (k : Key) (n : ℕ) (slip : ℕ → ℕ) : Type 0 where
   pub log : Log
   pub table : Table
-  pub messages : List Held
-  pub fresh : OnFresh k log table messages
-  pub offers : Exactly n slip messages
+  pub offers : List Held
+  pub on-fresh : OnFresh k log table offers
+  pub exactly : Exactly n slip offers
   pub ends : GaveNothing (mine k log)
