@@ -41,8 +41,8 @@ abbrev chained : (x : Moment) (l : List StreamCall) → every (λ a. small (a .c
 chained x [] w c = c
 chained x (a ∷ l) w c = chained (ask x a) l (and-right (small (a .call)) _ w) (asks c originator (a .id) (a .call) (and-left (small (a .call)) _ w))
 
-abbrev chain-of : (l : List StreamCall) → every (λ a. small (a .call)) l ≡ true → Chain (after l .log) (after l .table)
-chain-of l w = chained before l w begins
+abbrev chain-after : (l : List StreamCall) → every (λ a. small (a .call)) l ≡ true → Chain (after l .log) (after l .table)
+chain-after l w = chained before l w begins
 
 -- ---- a list of messages by its own words: as many of each number as of 1 to n, each with its slip
 
@@ -83,7 +83,9 @@ record More : Type 0 where
   forward-ends : Ends forward
   mixed-ends : Ends mixed
   reopened-ends : Ends reopened
-  straight-ends : Ends (straight 1 1) × Ends (straight 1 2) × Ends (straight 1 17)
+  straight-1-ends : Ends (straight 1 1)
+  straight-2-ends : Ends (straight 1 2)
+  straight-17-ends : Ends (straight 1 17)
   late-ends : Ends late
   forced-ends : Ends forced
   full-ends : Ends full
@@ -95,11 +97,9 @@ computed = record {
   forward-comes = record { answers-are = refl; offers-are = refl; accepts-are = refl; list-is = refl };
   mixed-comes = record { answers-are = refl; offers-are = refl; accepts-are = refl; list-is = refl };
   reopened-comes = record { answers-are = refl; offers-are = refl; accepts-are = refl; list-is = refl };
-  straight-comes = (
-    record { answers-are = refl; offers-are = refl; accepts-are = refl; list-is = refl },
-    record { answers-are = refl; offers-are = refl; accepts-are = refl; list-is = refl },
-    record { answers-are = refl; offers-are = refl; accepts-are = refl; list-is = refl },
-  );
+  straight-1-comes = record { answers-are = refl; offers-are = refl; accepts-are = refl; list-is = refl };
+  straight-2-comes = record { answers-are = refl; offers-are = refl; accepts-are = refl; list-is = refl };
+  straight-17-comes = record { answers-are = refl; offers-are = refl; accepts-are = refl; list-is = refl };
   late-comes = record { answers-are = refl; offers-are = refl; accepts-are = refl; list-is = refl };
   forced-comes = record { answers-are = refl; offers-are = refl; accepts-are = refl; list-is = refl };
   full-comes = record { answers-are = refl; offers-are = refl; accepts-are = refl; list-is = refl };
@@ -138,16 +138,18 @@ more = record {
       on-it m originator chat (takeAt 0 .call) refl refl tt;
   -- after the close a load of no image at all is refused
   reopened-fresh =
-      let a = after-refused-load (chain-of closed refl) (no-row-yet (chain-of closed refl) refl) in
-      let c = on-it a originator chat (bring 2 .call) refl refl (refl, refl) in
-      let d = on-it c originator chat (bring 1 .call) refl refl (refl, refl) in
+      let a = after-refused-load (chain-after closed refl) (no-row-yet (chain-after closed refl) refl) in
+      let b = on-it a originator chat (bring 2 .call) refl refl (refl, refl) in
+      let c = on-it b originator chat (bring 1 .call) refl refl (refl, refl) in
+      let d = on-it c originator chat (takeAt 0 .call) refl refl tt in
       let e = on-it d originator chat (takeAt 0 .call) refl refl tt in
-      let f = on-it e originator chat (takeAt 0 .call) refl refl tt in
-      on-it f originator chat (takeAt 0 .call) refl refl tt;
+      on-it e originator chat (takeAt 0 .call) refl refl tt;
   forward-ends = tt;
   mixed-ends = tt;
   reopened-ends = tt;
-  straight-ends = (tt, tt, tt);
+  straight-1-ends = tt;
+  straight-2-ends = tt;
+  straight-17-ends = tt;
   late-ends = tt;
   forced-ends = tt;
   full-ends = tt;
@@ -196,46 +198,46 @@ differ p l m a b e f d q = d (ap (count p) (sym e ∙ q ∙ f))
 
 -- the arrivals to compare with lack nothing
 abbrev workshop : (n : ℕ) (l : List StreamCall) (m : List Held) → every (λ a. small (a .call)) l ≡ true → takenIn (mine key (after l .log)) ≡ m → Exactly n slip m → Ends l → Workshop key n slip
-workshop n l m w e x g = record { log = after l .log; table = after l .table; chain = chain-of l w; exactly = rw e x; ends = g }
+workshop n l m w e x g = record { log = after l .log; table = after l .table; chain = chain-after l w; exactly = rw e x; ends = g }
 
 abbrev straight-1 : Workshop key 1 slip
-straight-1 = workshop 1 (straight 1 1) _ refl (computed .straight-comes .0 .accepts-are) (as-many 1 slip (messages 1 1) (λ i. omega arith) refl) (more .straight-ends .0)
+straight-1 = workshop 1 (straight 1 1) _ refl (computed .straight-1-comes .accepts-are) (as-many 1 slip (messages 1 1) (λ i. omega arith) refl) (more .straight-1-ends)
 
 abbrev straight-2 : Workshop key 2 slip
-straight-2 = workshop 2 (straight 1 2) _ refl (computed .straight-comes .1 .accepts-are) (as-many 2 slip (messages 1 2) (λ i. omega arith) refl) (more .straight-ends .1)
+straight-2 = workshop 2 (straight 1 2) _ refl (computed .straight-2-comes .accepts-are) (as-many 2 slip (messages 1 2) (λ i. omega arith) refl) (more .straight-2-ends)
 
 abbrev straight-17 : Workshop key 17 slip
-straight-17 = workshop 17 (straight 1 17) _ refl (computed .straight-comes .2 .accepts-are) (as-many 17 slip (messages 1 17) (λ i. omega arith) refl) (more .straight-ends .2)
+straight-17 = workshop 17 (straight 1 17) _ refl (computed .straight-17-comes .accepts-are) (as-many 17 slip (messages 1 17) (λ i. omega arith) refl) (more .straight-17-ends)
 
 -- where refused offers count: 1 is missing where it came after 2 was given out by timeout, or forced; 17 where it came before 1
 pub late-differs : AllOffers 2 late × Differs 2 late
 late-differs = (
-  record { chain = chain-of late refl; exactly = rw (computed .late-comes .offers-are) (as-many 2 slip (timed 2 600 ∷ message 1 ∷ []) (λ i. omega arith) refl); ends = more .late-ends },
-  (straight-2, differ (numbered 1) late (straight 1 2) _ _ (computed .late-comes .list-is) (computed .straight-comes .1 .list-is) (λ e. omega arith)),
+  record { chain = chain-after late refl; exactly = rw (computed .late-comes .offers-are) (as-many 2 slip (timed 2 600 ∷ message 1 ∷ []) (λ i. omega arith) refl); ends = more .late-ends },
+  (straight-2, differ (numbered 1) late (straight 1 2) _ _ (computed .late-comes .list-is) (computed .straight-2-comes .list-is) (λ e. omega arith)),
 )
 
 pub forced-differs : AllOffers 2 forced × Differs 2 forced
 forced-differs = (
-  record { chain = chain-of forced refl; exactly = rw (computed .forced-comes .offers-are) (as-many 2 slip (message 2 ∷ message 1 ∷ []) (λ i. omega arith) refl); ends = more .forced-ends },
-  (straight-2, differ (numbered 1) forced (straight 1 2) _ _ (computed .forced-comes .list-is) (computed .straight-comes .1 .list-is) (λ e. omega arith)),
+  record { chain = chain-after forced refl; exactly = rw (computed .forced-comes .offers-are) (as-many 2 slip (message 2 ∷ message 1 ∷ []) (λ i. omega arith) refl); ends = more .forced-ends },
+  (straight-2, differ (numbered 1) forced (straight 1 2) _ _ (computed .forced-comes .list-is) (computed .straight-2-comes .list-is) (λ e. omega arith)),
 )
 
 pub full-differs : AllOffers 17 full × Differs 17 full
 full-differs = (
-  record { chain = chain-of full refl; exactly = rw (computed .full-comes .offers-are) (as-many 17 slip (messages 2 16 ++ (message 1 ∷ [])) (λ i. omega arith) refl); ends = more .full-ends },
-  (straight-17, differ (numbered 17) full (straight 1 17) _ _ (computed .full-comes .list-is) (computed .straight-comes .2 .list-is) (λ e. omega arith)),
+  record { chain = chain-after full refl; exactly = rw (computed .full-comes .offers-are) (as-many 17 slip (messages 2 16 ++ (message 1 ∷ [])) (λ i. omega arith) refl); ends = more .full-ends },
+  (straight-17, differ (numbered 17) full (straight 1 17) _ _ (computed .full-comes .list-is) (computed .straight-17-comes .list-is) (λ e. omega arith)),
 )
 
 -- where slips differ
 pub relabelled-differs : OtherSlips 1 relabelled × Differs 1 relabelled
 relabelled-differs = (
-  record { chain = chain-of relabelled refl; exactly = rw (computed .relabelled-comes .accepts-are) (as-many 1 otherSlip (otherMessage 1 ∷ []) (λ i. omega arith) refl); ends = more .relabelled-ends },
-  (straight-1, differ (λ x. x .slip =? 101) relabelled (straight 1 1) _ _ (computed .relabelled-comes .list-is) (computed .straight-comes .0 .list-is) (λ e. omega arith)),
+  record { chain = chain-after relabelled refl; exactly = rw (computed .relabelled-comes .accepts-are) (as-many 1 otherSlip (otherMessage 1 ∷ []) (λ i. omega arith) refl); ends = more .relabelled-ends },
+  (straight-1, differ (λ x. x .slip =? 101) relabelled (straight 1 1) _ _ (computed .relabelled-comes .list-is) (computed .straight-1-comes .list-is) (λ e. omega arith)),
 )
 
 -- where the last take is left out: 2 is missing
 pub unasked-differs : NoLastTake 2 unasked × Differs 2 unasked
 unasked-differs = (
-  record { chain = chain-of unasked refl; exactly = rw (computed .unasked-comes .accepts-are) (as-many 2 slip (messages 1 2) (λ i. omega arith) refl) },
-  (straight-2, differ (numbered 2) unasked (straight 1 2) _ _ (computed .unasked-comes .list-is) (computed .straight-comes .1 .list-is) (λ e. omega arith)),
+  record { chain = chain-after unasked refl; exactly = rw (computed .unasked-comes .accepts-are) (as-many 2 slip (messages 1 2) (λ i. omega arith) refl) },
+  (straight-2, differ (numbered 2) unasked (straight 1 2) _ _ (computed .unasked-comes .list-is) (computed .straight-2-comes .list-is) (λ e. omega arith)),
 )

@@ -55,11 +55,11 @@ slip n = 100 + n
 abbrev pub otherSlip : ℕ → ℕ
 otherSlip n = 200 + n
 
-abbrev pub message : ℕ → Held
-message n = record { number = n; timeout = 0; slip = slip n }
-
 abbrev pub timed : (n timeout : ℕ) → Held
 timed n timeout = record { number = n; timeout = timeout; slip = slip n }
+
+abbrev pub message : ℕ → Held
+message n = timed n 0
 
 abbrev pub otherMessage : ℕ → Held
 otherMessage n = record { number = n; timeout = 0; slip = otherSlip n }
@@ -167,7 +167,9 @@ pub record Computed : Type 0 where
   pub forward-comes : Comes forward (accepted ∷ given 1 101 ∷ accepted ∷ accepted ∷ given 2 102 ∷ accepted ∷ givenFrom 3 2 (nothing ∷ [])) (messages 1 4) (messages 1 4) (inOrder 4 slip)
   pub mixed-comes : Comes mixed (refused 14 ∷ accepted ∷ accepted ∷ nothing ∷ accepted ∷ accepted ∷ given 1 101 ∷ refused 11 ∷ accepted ∷ givenFrom 2 3 (nothing ∷ [])) mixedMessages mixedMessages (inOrder 4 slip)
   pub reopened-comes : Comes reopened (accepted ∷ given 1 201 ∷ accepted ∷ accepted ∷ accepted ∷ givenFrom 1 2 (nothing ∷ [])) (otherMessage 1 ∷ message 2 ∷ message 1 ∷ []) (message 2 ∷ message 1 ∷ []) (inOrder 2 slip)
-  pub straight-comes : (Comes (straight 1 1) (inTurn 1 1) (messages 1 1) (messages 1 1) (inOrder 1 slip)) × (Comes (straight 1 2) (inTurn 1 2) (messages 1 2) (messages 1 2) (inOrder 2 slip)) × (Comes (straight 1 17) (inTurn 1 17) (messages 1 17) (messages 1 17) (inOrder 17 slip))
+  pub straight-1-comes : Comes (straight 1 1) (inTurn 1 1) (messages 1 1) (messages 1 1) (inOrder 1 slip)
+  pub straight-2-comes : Comes (straight 1 2) (inTurn 1 2) (messages 1 2) (messages 1 2) (inOrder 2 slip)
+  pub straight-17-comes : Comes (straight 1 17) (inTurn 1 17) (messages 1 17) (messages 1 17) (inOrder 17 slip)
   pub late-comes : Comes late (accepted ∷ given 2 102 ∷ refused 10 ∷ nothing ∷ []) (timed 2 600 ∷ message 1 ∷ []) (timed 2 600 ∷ []) only2
   pub forced-comes : Comes forced (accepted ∷ given 2 102 ∷ refused 10 ∷ nothing ∷ []) (message 2 ∷ message 1 ∷ []) (message 2 ∷ []) only2
   pub full-comes : Comes full (acceptedTimes 15 (refused 12 ∷ accepted ∷ givenFrom 1 16 (nothing ∷ []))) (messages 2 16 ++ (message 1 ∷ [])) (messages 2 15 ++ (message 1 ∷ [])) (inOrder 16 slip)
