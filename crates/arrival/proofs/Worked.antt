@@ -1,5 +1,5 @@
--- W14, worked by computation: the premises can be met, in two orders; and what goes wrong where refused offers count, slips differ, or the last take is
--- left out.
+-- W14, worked by computation: the premises can be met, in two orders and on a row that is opened again; and what goes wrong where refused offers count,
+-- slips differ, or the last take is left out.
 use Prim.Native.Nat.{ℕ}
 use native.Mathlib.Omega.{arith}
 use mathlib.Core.Path.{_≡_, refl, sym, ap, _∙_, subst}
@@ -65,6 +65,7 @@ no-image-refused : (t : Table) → keepsTable t ≡ true → loadOf t [] .answer
 unfolding loadOf
 no-image-refused t e = rw (e, no-image)
 
+-- log and table are as they were, so the type does not show the load: it is in the proof alone
 after-refused-load : {l : Log} {t : Table} {m : List Held} → Chain l t → OnFresh key l t m → OnFresh key l t m
 after-refused-load {l} {t} {m} c x =
     let e = no-image-refused t (rules-kept c) in
@@ -156,8 +157,9 @@ more = record {
   relabelled-ends = tt;
 }
 
--- ---- THE PREMISES CAN BE MET, in two orders
+-- ---- THE PREMISES CAN BE MET
 
+-- in two orders
 pub forward-written : AsWritten key 4 slip
 forward-written = record {
   log = after forward .log;

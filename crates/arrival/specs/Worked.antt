@@ -93,15 +93,16 @@ abbrev pub takes : (count : ℕ) → List StreamCall
 takes zero = []
 takes (suc count) = takeAt 0 ∷ takes count
 
--- ---- arrivals that lack nothing: 1 to 4 in two orders, with takes strewn in, times that go back and, in the second, calls on another stream
+-- ---- arrivals that lack nothing
 
+-- 1 to 4 in two orders, with takes strewn in, times that go back and, in the second, calls on another stream
 abbrev pub forward : List StreamCall
 forward = bring 1 ∷ takeAt 7 ∷ bring 2 ∷ bring 3 ∷ takeAt 5 ∷ bring 4 ∷ takes 3
 
 abbrev pub mixed : List StreamCall
 mixed = takeAt 9 ∷ bring 4 ∷ elsewhere 3 ∷ takeAt 4294967295 ∷ bring 2 ∷ bring 1 ∷ takeAt 3 ∷ elsewhere 3 ∷ bring 3 ∷ takes 4
 
--- a first row of the stream, with a message 1 of its own, is closed before 2 and 1 come
+-- a first row of the stream, with a message 1 of its own, which is given out before the row is closed; after it 2 and 1 come on a new row
 abbrev pub closed : List StreamCall
 closed = offerAt (otherMessage 1) 0 ∷ takeAt 0 ∷ record { id = chat; call = close } ∷ []
 
@@ -137,7 +138,7 @@ unasked = brings 1 2 ++ takes 1
 
 -- ---- what they come to
 
--- the answers, the messages offered, those accepted, and the list that was given out
+-- the answers and the messages of all offers, from the first call on; those accepted, and the list that was given out, since the row last opened
 pub record Comes (l : List StreamCall) (said : List Answer) (offers accepts : List Held) (list : List Sent) : Type 0 where
   pub answers-are : answersFrom before l ≡ said
   pub offers-are : offered key (after l .log) ≡ offers
