@@ -1,4 +1,6 @@
 // Document 01, "Names and fields": callsigns and destinations.
+#![tactic(auto)]
+
 ghost use Rattle.std.specs.Prelude.{◌≡◌};
 ghost use Rattle.callsigns.specs.Callsign.{callsign, callsign_of, same_call};
 ghost use Rattle.callsigns.specs.Destination.{destination, destination_of};

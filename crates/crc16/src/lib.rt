@@ -1,4 +1,6 @@
 // CRC-16/CCITT-FALSE, the check that ends an `ihave` line.
+#![tactic(auto)]
+
 ghost use Rattle.std.specs.Prelude.{◌≡◌, ◌<◌};
 ghost use Rattle.crc16.specs.Crc.{bits_feed, bits, crc_feed, crc16};
 

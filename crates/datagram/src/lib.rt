@@ -1,4 +1,6 @@
 // Document 01, "The datagram": version 7, read.
+#![tactic(auto)]
+
 ghost use Rattle.std.specs.Prelude.{◌≡◌};
 ghost use Rattle.datagram.specs.Answer.{says, read_of, part_of, refused};
 

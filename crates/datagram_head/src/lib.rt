@@ -1,4 +1,6 @@
 // Document 01, "The datagram": what stands before the payload (version, fields, payload length), put together.
+#![tactic(auto)]
+
 ghost use Rattle.std.specs.Prelude.{◌≡◌, ◌≤◌, length};
 ghost use Rattle.octets.specs.Bytes.{front};
 ghost use Rattle.datagram_head.specs.Head.{head_bytes, valid_head};

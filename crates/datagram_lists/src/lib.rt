@@ -1,5 +1,7 @@
 // Document 01, "The datagram": its lists, each behind its count. Flood hops, source route and traversed hops; the headers.
 // A reader answers whether its fields are there, how many bytes they took and their values; where they are not there, everything else is blank.
+#![tactic(auto)]
+
 ghost use Rattle.std.specs.Prelude.{◌≡◌};
 ghost use Rattle.layout.specs.Layout.{way, headers_if};
 ghost use Rattle.datagram_lists.specs.Found.{way_found, headers_found};

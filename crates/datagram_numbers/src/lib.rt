@@ -1,6 +1,8 @@
 // Document 01, "The datagram": its numbers. Flags, id, salt and ttl; flood hops; a fragment's master id, index and total.
 // Each field is read from the part that begins where the last one ended. A reader answers whether its field is there, how many bytes it took and
 // its value; where it is not there, everything else is blank.
+#![tactic(auto)]
+
 ghost use Rattle.std.specs.Prelude.{◌≡◌};
 ghost use Rattle.octets.specs.Words.{◌and◌};
 ghost use Rattle.octets.specs.Field.{num};

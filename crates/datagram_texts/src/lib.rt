@@ -1,6 +1,8 @@
 // Document 01, "The datagram": its texts, each behind its length. Destination, originator and link source; a hop; a header; a stream's id and numbers.
 // Each field is read from the part that begins where the last one ended. A reader answers whether its field is there, how many bytes it took and
 // its value; where it is not there, everything else is blank.
+#![tactic(auto)]
+
 ghost use Rattle.std.specs.Prelude.{◌≡◌};
 ghost use Rattle.layout.specs.Layout.{call, header, ends, stream_if};
 ghost use Rattle.datagram_texts.specs.Found.{hop_found, header_found, ends_found, stream_found};

@@ -1,4 +1,6 @@
 // Document 01, "The datagram": version 7, written.
+#![tactic(auto)]
+
 ghost use Rattle.std.specs.Prelude.{◌≡◌, length};
 ghost use Rattle.datagram_writer.specs.Answer.{says, write_of, write_left};
 

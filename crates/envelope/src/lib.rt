@@ -1,5 +1,7 @@
 // Document 01, "Names and fields": the fields that a line and a datagram share, and one set of rules for them.
 // A message is its fields up to their lengths and flags: what lies past a length or behind a clear flag is no part of it.
+#![tactic(auto)]
+
 ghost use Rattle.std.specs.Prelude.{◌≡◌};
 ghost use Rattle.envelope.specs.Texts.{call_text, address_text, stream_text, blank_envelope};
 ghost use Rattle.envelope.specs.Rules.{call_in, envelope};

@@ -14,9 +14,9 @@ use Rattle.refusals.specs.Numbers.{line_malformed, chk_differs, format_d, payloa
 use Rattle.field_rules.specs.Rules.{id_in}
 use Rattle.envelope.specs.Rules.{envelope}
 use Rattle.envelope.specs.declared.Envelope.{Envelope}
-use Rattle.sha1.specs.declared.Sha1.{Sha1}
-use Rattle.sha1.specs.Machine.{fed, finished}
-use Rattle.sha1.specs.Id.{id_number}
+use Rattle.sha1_digest.specs.declared.Sha1.{Sha1}
+use Rattle.sha1_digest.specs.Machine.{fed, finished}
+use Rattle.sha1_digest.specs.Id.{id_number}
 use Rattle.line.specs.Reading.{Reading, rest_of, is_text, framed, values_good, well_formed, chk_right, line_of, refusal_of, read_as, read_of}
 use Rattle.line_groups.specs.Rules.{deflated}
 use Rattle.line_groups.specs.Answers.{len_of}

@@ -15,14 +15,14 @@ use Rattle.octets.specs.Bytes.{placed}
 use Rattle.octets.proofs.Tests.{if_yes, if_no, and_left, and_right}
 use Rattle.octets.proofs.Lists.{placed-in, length-placed}
 use Rattle.refusals.specs.Numbers.{payload_too_long, longest_payload}
-use Rattle.sha1.specs.declared.Salt.{Salt}
-use Rattle.sha1.specs.declared.Sha1.{Sha1}
-use Rattle.sha1.specs.Sha1.{sha1}
-use Rattle.sha1.specs.Machine.{fed_all, finished}
-use Rattle.sha1.specs.Id.{salt_bytes, id_number, message_id, is}
-use Rattle.sha1.specs.Id as ids
-use Rattle.sha1.proofs.Feed.{parts}
-use Rattle.sha1.proofs.Ids.{id-of-pieces}
+use Rattle.sha1_digest.specs.declared.Salt.{Salt}
+use Rattle.sha1_digest.specs.declared.Sha1.{Sha1}
+use Rattle.sha1_digest.specs.Sha1.{sha1}
+use Rattle.sha1_digest.specs.Machine.{fed_all, finished}
+use Rattle.sha1_digest.specs.Id.{salt_bytes, id_number, message_id, is}
+use Rattle.sha1_digest.specs.Id as ids
+use Rattle.sha1_digest.proofs.Feed.{parts}
+use Rattle.sha1_digest.proofs.Ids.{id-of-pieces}
 use Rattle.line.specs.declared.Line.{Line}
 use Rattle.line.specs.Reading.{Reading}
 use Rattle.line.specs.Reading.{read_of}

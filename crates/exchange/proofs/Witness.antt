@@ -25,8 +25,8 @@ use Rattle.line_groups.specs.Rules.{payload_good, singles_good, fragment_good, s
 use Rattle.line_places.specs.Headers.{headers_fit, headers_of}
 use Rattle.line.specs.Reading.{plain, is_text, framed, fields_of, line_of, values_good, well_formed, chk_right, refusal_of, read_of}
 use Rattle.sha1_block.specs.Block.{quarter, scheduled, schedule, round, rounds, plus, compressed}
-use Rattle.sha1.specs.Sha1.{padding}
-use Rattle.sha1.specs.Machine.{fed}
+use Rattle.sha1_digest.specs.Sha1.{padding}
+use Rattle.sha1_digest.specs.Machine.{fed}
 use Rattle.phrases.specs.Lines.{verb, spells, kind_of, is_data}
 use Rattle.talk.specs.Answer as what
 use Rattle.talk.specs.Sessions.{keeps_terms}

@@ -1,1 +1,2 @@
 // Worked exchanges with the receiving session: theorems only, no code.
+#![tactic(auto)]

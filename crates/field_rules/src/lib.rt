@@ -1,5 +1,7 @@
 // Document 01, "Names and fields": the rules of the numbers that a line and a datagram share. A field that may be absent keeps its rule where
 // its flag is set.
+#![tactic(auto)]
+
 ghost use Rattle.std.specs.Prelude.{◌≡◌};
 ghost use Rattle.field_rules.specs.Rules.{id_in, ttl_in, fragment_in, if_set};
 

@@ -1,4 +1,6 @@
 // Document 01, "Fragments": the numbers that refuse a call on the groups, in their order, by what the tests found; 0 where nothing refuses.
+#![tactic(auto)]
+
 ghost use Rattle.std.specs.Prelude.{◌≡◌};
 ghost use Rattle.fragment_refusals.specs.Order.{fragment_ranged, refuses_key, refuses_joining, refuses_collecting};
 

@@ -1,5 +1,7 @@
 // Document 01, "Fragments": a fragment is added to the house store, and a complete group is collected from it.
 // The groups go in by value and come back in the answer; the store is lent, and a refusal leaves both as they were.
+#![tactic(auto)]
+
 ghost use Rattle.std.specs.Prelude.{◌≡◌, length};
 ghost use Rattle.groupkeys.specs.Key.{named_of};
 ghost use Rattle.groupcalls.specs.Answer.{says};

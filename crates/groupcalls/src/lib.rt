@@ -1,5 +1,7 @@
 // Document 01, "Fragments": what adding a fragment, collecting a complete group and sweeping old groups come to on the groups alone.
 // The groups go in by value and come back in the answer; a refusal leaves them as they were. The bytes of the fragments are not here.
+#![tactic(auto)]
+
 ghost use Rattle.std.specs.Prelude.{◌≡◌};
 ghost use Rattle.groupcalls.specs.Answer.{says, standing_says};
 ghost use Rattle.groupcalls.specs.Calls.{add, collect, sweep, standing};

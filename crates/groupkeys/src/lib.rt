@@ -1,5 +1,7 @@
 // Document 01, "Fragments": a group's key is originator (may be absent) and master id.
 // A key of the names that a call is given, its equality, and the rules that it keeps.
+#![tactic(auto)]
+
 ghost use Rattle.std.specs.Prelude.{◌≡◌};
 ghost use Rattle.groupkeys.specs.Key.{same_key, keeps_key, no_key, named_of};
 

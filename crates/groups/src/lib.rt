@@ -1,5 +1,7 @@
 // Document 01, "Fragments": the four groups of the house store, their keys, and the rules that they keep (40).
 // The state is here, by value; the bytes of the fragments lie in the store, which the host lends.
+#![tactic(auto)]
+
 ghost use Rattle.std.specs.Prelude.{◌≡◌};
 ghost use Rattle.groups.specs.Groups.{free_group, empty, keeps_groups, has_key, is_free, first, complete, joined_length};
 

@@ -1,4 +1,6 @@
 // Document 01, "Fragments": old groups swept, and whether a group is complete. No state rule is tested here.
+#![tactic(auto)]
+
 ghost use Rattle.std.specs.Prelude.{◌≡◌, ◌-◌};
 ghost use Rattle.groupsweep.specs.Sweep.{swept_group, swept_all, stands_complete};
 

@@ -1,4 +1,6 @@
 // Document 01, "Names and fields": the headers of a message, and whether their keys all differ.
+#![tactic(auto)]
+
 ghost use Rattle.std.specs.Prelude.{◌≡◌};
 ghost use Rattle.octets.specs.Bytes.{same};
 ghost use Rattle.headers.specs.Keys.{all_differ, key_of, keys_of};

@@ -1,4 +1,6 @@
 // Texts held in arrays, zero past their lengths; a text that is too long for its array is held as none.
+#![tactic(auto)]
+
 ghost use Rattle.std.specs.Prelude.{◌≡◌, length};
 ghost use Rattle.octets.specs.Bytes.{front};
 ghost use Rattle.held_texts.specs.Texts.{fitted, header_text, no_headers, with_header};

@@ -1,4 +1,6 @@
 // Document 01, "The saved table": a table is saved to bytes that the host lends, and loaded from them.
+#![tactic(auto)]
+
 ghost use Rattle.std.specs.Prelude.{◌≡◌};
 ghost use Rattle.image.specs.Answer.{saved_says, loaded_says};
 ghost use Rattle.image.specs.Image.{save_of, load_of};

@@ -1,4 +1,6 @@
 // Document 01, "The saved table": the marks by which an image's rows and its end are told.
+#![tactic(auto)]
+
 ghost use Rattle.std.specs.Prelude.{◌≡◌, ◌+◌, take};
 ghost use Rattle.octets.specs.Words.{◌≤?◌};
 ghost use Rattle.octets.specs.Bytes.{same, fits, placed};

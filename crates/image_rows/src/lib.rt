@@ -1,4 +1,6 @@
 // Document 01, "The saved table": what an image says of the 32 rows, in row order.
+#![tactic(auto)]
+
 ghost use Rattle.std.specs.Prelude.{◌≡◌};
 ghost use Rattle.octets.specs.Field.{bad};
 ghost use Rattle.image_rows.specs.Rows.{slots_from};

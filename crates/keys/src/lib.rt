@@ -1,4 +1,6 @@
 // Document 01, "Streams": a row's key, originator and stream id. Whoever keeps rows by key compares keys by `same` and never looks inside.
+#![tactic(auto)]
+
 ghost use Rattle.std.specs.Prelude.{◌≡◌};
 ghost use Rattle.keys.specs.Key.{no_key, same_key, named_of, keeps_key, is_no_key, stream_id_of, mark_of};
 

@@ -1,5 +1,7 @@
 // Document 01, "The datagram": what a version 7 datagram carries besides its payload, and the rules that reader and writer share.
 // The layout itself is a definition, specs/Layout.antt.
+#![tactic(auto)]
+
 ghost use Rattle.std.specs.Prelude.{◌≡◌};
 ghost use Rattle.octets.specs.Words.{◌and◌};
 ghost use Rattle.envelope.specs.Rules.{call_in, if_set};

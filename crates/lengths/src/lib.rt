@@ -1,4 +1,6 @@
 // Lengths and parts, once for all crates: a length cut to an array, the first bytes of a text, whether a rest is zero, and numbers made wider.
+#![tactic(auto)]
+
 ghost use Rattle.std.specs.Prelude.{◌≡◌, ◌<◌, ◌≤◌, min, take, drop};
 ghost use Rattle.octets.specs.Bytes.{all_zero};
 

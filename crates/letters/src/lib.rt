@@ -1,4 +1,6 @@
 // Document 02, W4: a letter means the same in either case.
+#![tactic(auto)]
+
 ghost use Rattle.std.specs.Prelude.{◌≡◌};
 ghost use Rattle.octets.specs.Words.{◌=?◌};
 ghost use Rattle.octets.specs.Bytes.{same};

@@ -1,5 +1,7 @@
 // Document 01, "The ihave line": a line read. Its tokens are read in one pass, so that keys may come in any order; the fields are then held to
 // the rules that every message keeps (`envelope`).
+#![tactic(auto)]
+
 ghost use Rattle.std.specs.Prelude.{◌≡◌, ◌-◌, ◌≤◌};
 ghost use Rattle.line.specs.Reading.{says, read_of};
 ghost use Rattle.line.specs.Steps.{right_chk, refused_by};

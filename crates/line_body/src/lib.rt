@@ -1,4 +1,6 @@
 // Document 01, "The ihave line": the body of a line that is written, the bytes before the space that precedes `chk=`.
+#![tactic(auto)]
+
 ghost use Rattle.std.specs.Prelude.{◌≡◌};
 ghost use Rattle.line.specs.Writing.{body_of};
 ghost use Rattle.line_draft.specs.Draft.{added, Adds};

@@ -1,5 +1,7 @@
 // A line as it is put together in a lent array of 512 bytes, LF not counted: every put answers the place behind it. What does not fit is not
 // put, and the place is then past the array's end, where nothing more fits.
+#![tactic(auto)]
+
 ghost use Rattle.std.specs.Prelude.{◌≡◌};
 ghost use Rattle.octets.specs.Bytes.{placed};
 ghost use Rattle.text.specs.Decimal.{decimal, signed_decimal};

@@ -1,5 +1,7 @@
 // Document 01, "The ihave line": what the tokens of a line say, where the rules of every key hold: the payload's length, `chk`, and the
 // fields that a datagram has too.
+#![tactic(auto)]
+
 ghost use Rattle.std.specs.Prelude.{◌≡◌};
 ghost use Rattle.line_groups.specs.Answers.{payload_by, singles_by, fragment_by, stream_by};
 ghost use Rattle.line_fields.specs.Fields.{no_values, values_of};

@@ -1,4 +1,6 @@
 // Document 01, "The ihave line": the line's text, its first two words, and the text of the tokens behind them.
+#![tactic(auto)]
+
 ghost use Rattle.std.specs.Prelude.{◌≡◌};
 ghost use Rattle.octets.specs.Words.{every};
 ghost use Rattle.line_frame.specs.Frame.{plain, is_text, line_head, rest_of};

@@ -1,6 +1,8 @@
 // Document 01, "The ihave line": the values of a line's reserved keys, in groups that stand or fall together.
 // Each reader is given the group's values, those that may be missing behind their flags; its answer says whether the group's rules hold, and
 // then what the values are.
+#![tactic(auto)]
+
 ghost use Rattle.std.specs.Prelude.{◌≡◌};
 ghost use Rattle.line_groups.specs.Answers.{payload_by, singles_by, fragment_by, stream_by};
 

@@ -1,5 +1,7 @@
 // Document 01, "The ihave line": the text of a line's tokens, read in one pass. Each word is cut once and its key looked up in the table of
 // the reserved keys: the place of its value is kept there, and every other key is a header.
+#![tactic(auto)]
+
 ghost use Rattle.std.specs.Prelude.{◌≡◌, ◌-◌, ◌≤◌, length, take, drop};
 ghost use Rattle.line_places.specs.Places.{no_place, place_at, no_places, places_of, value_at};
 

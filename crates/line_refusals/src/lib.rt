@@ -1,4 +1,6 @@
 // Document 01, "Numbers the node says no with": the numbers that refuse a line, read or written. Of several the lowest wins; 5 comes last.
+#![tactic(auto)]
+
 ghost use Rattle.std.specs.Prelude.{◌≡◌, ◌+◌};
 ghost use Rattle.line_refusals.specs.Order.{refuses_reading, refuses_writing, line_good};
 

@@ -1,5 +1,7 @@
 // Document 01, "Names and fields": the values of a line's keys, each by itself: a number, a salt, a check, a master id, N/M.
 // Each reading answers whether the text is good, and what it says.
+#![tactic(auto)]
+
 ghost use Rattle.std.specs.Prelude.{◌≡◌, ◌≤◌};
 ghost use Rattle.line_values.specs.Values.{decimal_of, master_of, no_part, part_of, number_if, salt_if, chk_if};
 

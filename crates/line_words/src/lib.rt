@@ -1,5 +1,7 @@
 // Document 01, "The ihave line": what a word must be to stand behind the words before it, a header behind the headers before it, and which
 // keys come together.
+#![tactic(auto)]
+
 ghost use Rattle.std.specs.Prelude.{◌≡◌};
 ghost use Rattle.line_words.specs.Standing.{may_stand, header_room, alike, all_or_none, format_rule};
 

@@ -1,4 +1,6 @@
 // Document 01, "The ihave line": a line written. It is put together in an array of its own, and goes into the lent buffer whole or not at all.
+#![tactic(auto)]
+
 ghost use Rattle.std.specs.Prelude.{◌≡◌, take};
 ghost use Rattle.line_draft.specs.Draft.{added, Adds};
 ghost use Rattle.line_writer.specs.Answer.{says, write_answer, write_left};

@@ -1,4 +1,6 @@
 // Document 01, "Streams": what stands for a key, and the refusals that go before a row's own, in the order of the paper's table.
+#![tactic(auto)]
+
 ghost use Rattle.std.specs.Prelude.{◌≡◌};
 ghost use Rattle.lookups.specs.Lookup.{standing_of, known_target, offer_target};
 

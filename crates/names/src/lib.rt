@@ -1,4 +1,6 @@
 // Document 01, "Names and fields": stream id, header key and value, the thirteen reserved keys.
+#![tactic(auto)]
+
 ghost use Rattle.std.specs.Prelude.{◌≡◌};
 ghost use Rattle.names.specs.Reserved.{reserved, key_place};
 ghost use Rattle.names.specs.Texts.{stream_id, header_key, header_value};

@@ -1,9 +1,10 @@
 // The face: exactly the calls that a host makes and the types that they take and answer, under one name each.
 // docs/CALLS.md says what each call is lent, what it answers and leaves, and what it refuses. Methods come with their type.
+#![tactic(auto)]
 
 // ---- bytes alone
 pub use crc16::crc;
-pub use sha1::{IdAnswer, Salt, Sha1, message_id};
+pub use sha1_digest::{IdAnswer, Salt, Sha1, message_id};
 pub use sha1_block::Hash;
 pub use utf8::well_formed;
 

@@ -1,5 +1,7 @@
 // Bytes, once for all crates: equality, copying into a lent buffer, little-endian numbers at every width.
 // Whatever is written goes to a place of a lent buffer; what does not fit there changes no byte, and the answer says so.
+#![tactic(auto)]
+
 ghost use Rattle.std.specs.Prelude.{◌≡◌};
 ghost use Rattle.octets.specs.Bytes.{same, fits, placed};
 ghost use Rattle.octets.specs.Numbers.{little_bytes, twos};

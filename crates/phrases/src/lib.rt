@@ -1,4 +1,6 @@
 // Document 01, "The receiving session": what a peer's line is.
+#![tactic(auto)]
+
 ghost use Rattle.std.specs.Prelude.{◌≡◌};
 ghost use Rattle.phrases.specs.Lines.{kind_of, is_data};
 

@@ -1,4 +1,6 @@
 // Document 01, "Streams": the sixteen places of a row's held messages, and what the row's rules and calls ask of them, one loop to a function.
+#![tactic(auto)]
+
 ghost use Rattle.std.specs.Prelude.{◌≡◌, ◌∷◌, ◌++◌, [], take, drop};
 ghost use Rattle.octets.specs.Words.{every};
 ghost use Rattle.places.specs.Messages.{ascending, holds, gap_open};

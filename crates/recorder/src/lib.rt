@@ -1,4 +1,6 @@
 // Document 01, "The saved table": one row's record, measured and written.
+#![tactic(auto)]
+
 ghost use Rattle.std.specs.Prelude.{◌≡◌, length};
 ghost use Rattle.octets.specs.Bytes.{fits, placed};
 ghost use Rattle.records.specs.Record.{body};

@@ -1,4 +1,6 @@
 // Document 01, "The saved table": one row's record, and how it is read. What a table's image is made of.
+#![tactic(auto)]
+
 ghost use Rattle.std.specs.Prelude.{◌≡◌};
 ghost use Rattle.records.specs.Record.{body, reading_of};
 

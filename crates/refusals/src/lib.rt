@@ -1,4 +1,5 @@
 // Document 01, "Numbers the node says no with": the table, a name for each number.
+#![tactic(auto)]
 
 // Line malformed.
 pub const LINE_MALFORMED: u8 = 1;

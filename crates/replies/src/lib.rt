@@ -1,4 +1,6 @@
 // Document 01, "The receiving session": what is said to the peer.
+#![tactic(auto)]
+
 ghost use Rattle.std.specs.Prelude.{◌≡◌};
 ghost use Rattle.octets.specs.Bytes.{placed};
 ghost use Rattle.replies.specs.Replies.{reply_text, wrote};

@@ -1,4 +1,6 @@
 // Document 01, "Streams": what a row's rules and calls work out from numbers alone, whatever these came from.
+#![tactic(auto)]
+
 ghost use Rattle.std.specs.Prelude.{◌≡◌, ◌+◌, max};
 ghost use Rattle.row_numbers.specs.Numbers.{above_by, keeps_numbers, refuses_offer, start_after, due_by};
 

@@ -1,5 +1,7 @@
 // Document 01, "Streams": one row, its rules and its three calls.
 // The row goes in by value and comes back in the answer; a refusal hands it back as it came.
+#![tactic(auto)]
+
 ghost use Rattle.std.specs.Prelude.{◌≡◌};
 ghost use Rattle.rows.specs.Answer.{offered_says, taken_says};
 ghost use Rattle.rows.specs.Stream.{fresh};

@@ -12,9 +12,9 @@ use Rattle.octets.proofs.Tests.{if_yes, and_left, inside-high}
 use Rattle.octets.proofs.Lists.{placed-in}
 use Rattle.text.specs.Hex.{hex_digits}
 use Rattle.text.proofs.Numerals.{length_digits}
-use Rattle.sha1.specs.declared.Sha1.{Sha1}
-use Rattle.sha1.specs.Machine.{fed, finished}
-use Rattle.sha1.specs.Id.{id_number}
+use Rattle.sha1_digest.specs.declared.Sha1.{Sha1}
+use Rattle.sha1_digest.specs.Machine.{fed, finished}
+use Rattle.sha1_digest.specs.Id.{id_number}
 use Rattle.line.specs.declared.Line.{Line}
 use Rattle.line.specs.Reading.{Reading, read_of}
 use Rattle.phrases.specs.declared.Kind.{Kind}

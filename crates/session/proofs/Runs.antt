@@ -11,8 +11,8 @@ use Rattle.octets.specs.Words.{if◌then◌else◌, ◌=?◌}
 use Rattle.octets.specs.Bytes.{placed}
 use Rattle.octets.proofs.Lists.{drop-next, placed-none, placed-next}
 use Rattle.tokens.specs.Cuts.{before}
-use Rattle.sha1.specs.declared.Sha1.{Sha1}
-use Rattle.sha1.specs.Machine.{fed, fed_all}
+use Rattle.sha1_digest.specs.declared.Sha1.{Sha1}
+use Rattle.sha1_digest.specs.Machine.{fed, fed_all}
 use Rattle.machine.specs.Machine.{Fed, quiet, after, run}
 use Rattle.talk.specs.declared.Session.{Session}
 use Rattle.talk.specs.Answer.{Happening}

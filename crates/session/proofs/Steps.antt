@@ -9,8 +9,8 @@ use lib.Seq.{length-take-le, take_all}
 use borrow.Author.Tests.{eq-eqb, ne_eqb}
 use Rattle.octets.specs.Bytes.{placed}
 use Rattle.octets.proofs.Tests.{if_yes, if_no}
-use Rattle.sha1.specs.declared.Sha1.{Sha1}
-use Rattle.sha1.specs.Machine.{fed_all}
+use Rattle.sha1_digest.specs.declared.Sha1.{Sha1}
+use Rattle.sha1_digest.specs.Machine.{fed_all}
 use Rattle.tokens.specs.Cuts.{before}
 use Rattle.line.specs.Reading.{blank_line}
 use Rattle.replies.specs.Replies.{wrote}

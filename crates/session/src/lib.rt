@@ -1,4 +1,6 @@
 // Document 01, "The receiving session": bytes from the peer in, a reply and what happened out.
+#![tactic(auto)]
+
 ghost use Rattle.std.specs.Prelude.{◌≡◌, length};
 ghost use Rattle.octets.specs.Bytes.{front};
 ghost use Rattle.session.specs.Answer.{says, opened_says};

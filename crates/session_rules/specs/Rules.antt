@@ -3,7 +3,7 @@ use Rattle.std.specs.Prelude.{ℕ, Bool, List, length, drop}
 use Rattle.octets.specs.Words.{if◌then◌else◌, ◌and◌, ◌or◌, no, ◌<?◌, ◌≤?◌, ◌=?◌}
 use Rattle.octets.specs.Bytes.{all_zero}
 use Rattle.refusals.specs.Numbers.{buffer_too_short, session_closed, state_broken, longest_payload}
-use Rattle.sha1.specs.Machine.{fresh}
+use Rattle.sha1_digest.specs.Machine.{fresh}
 use Rattle.talk.specs.declared.Terms.{Terms}
 use Rattle.talk.specs.declared.Session.{Session}
 use Rattle.talk.specs.Sessions.{keeps_terms}

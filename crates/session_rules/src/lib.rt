@@ -1,5 +1,7 @@
 // Document 01, "The receiving session": what a call tests before it feeds a piece: the rules of a session (40), whether it is closed (22), and
 // the lent buffers (5).
+#![tactic(auto)]
+
 ghost use Rattle.std.specs.Prelude.{◌≡◌};
 ghost use Rattle.session_rules.specs.Rules.{session_by, step_refusal};
 

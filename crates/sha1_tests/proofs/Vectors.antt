@@ -7,8 +7,8 @@ use lib.IntN.{pos, negsuc}
 use Rattle.octets.specs.Numbers.{little_bytes}
 use Rattle.text.specs.Digits.{value, digits}
 use Rattle.sha1_block.specs.Block.{quarter, scheduled, schedule, round, rounds, plus, compressed, chain}
-use Rattle.sha1.specs.Sha1.{padding, sha1}
-use Rattle.sha1.specs.Id.{salt_bytes, id_number}
+use Rattle.sha1_digest.specs.Sha1.{padding, sha1}
+use Rattle.sha1_digest.specs.Id.{salt_bytes, id_number}
 
 pub empty : sha1 [] ≡ record { a = 0xDA39A3EE; b = 0x5E6B4B0D; c = 0x3255BFEF; d = 0x95601890; e = 0xAFD80709 }
 unfolding quarter padding scheduled schedule round rounds plus compressed chain sha1

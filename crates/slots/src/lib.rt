@@ -1,4 +1,6 @@
 // Document 01, "Streams": a slot of the table, which is an open row with its key, or a free one, all zero.
+#![tactic(auto)]
+
 ghost use Rattle.std.specs.Prelude.{◌≡◌};
 ghost use Rattle.octets.specs.Words.{◌and◌};
 ghost use Rattle.slots.specs.Slot.{free_slot, keeps_open, keeps_free, has_key, slot_for};

@@ -1,5 +1,7 @@
 // Document 01, "Streams": the table of 32 rows by key. The table goes in by value and comes back in the answer; a refusal hands it back as
 // it came.
+#![tactic(auto)]
+
 ghost use Rattle.std.specs.Prelude.{◌≡◌};
 ghost use Rattle.rows.specs.Answer.{refused};
 ghost use Rattle.rows.specs.Row.{no_row};

@@ -11,9 +11,9 @@ use Rattle.octets.specs.Bytes.{placed}
 use Rattle.octets.proofs.Tests.{if_yes, if_no, and_both, and-next, and-not-left, and-not-right}
 use Rattle.refusals.specs.Numbers.{longest_payload}
 use Rattle.field_rules.specs.Rules.{id_in}
-use Rattle.sha1.specs.declared.Sha1.{Sha1}
-use Rattle.sha1.specs.Machine.{fresh, fed_all, finished}
-use Rattle.sha1.specs.Id.{salt_bytes, id_number}
+use Rattle.sha1_digest.specs.declared.Sha1.{Sha1}
+use Rattle.sha1_digest.specs.Machine.{fresh, fed_all, finished}
+use Rattle.sha1_digest.specs.Id.{salt_bytes, id_number}
 use Rattle.envelope.specs.declared.Envelope.{Envelope}
 use Rattle.envelope.specs.Texts.{blank_envelope}
 use Rattle.line.specs.declared.Line.{Line}

@@ -3,9 +3,9 @@ use Rattle.std.specs.Prelude.{ℕ, Bool, false, List, replicate, take, pos}
 use Rattle.octets.specs.Words.{◌and◌, ◌≤?◌}
 use Rattle.refusals.specs.Numbers.{longest_payload}
 use Rattle.field_rules.specs.Rules.{id_in}
-use Rattle.sha1.specs.declared.Sha1.{Sha1}
-use Rattle.sha1.specs.Machine.{fresh, fed_all}
-use Rattle.sha1.specs.Id.{salt_bytes}
+use Rattle.sha1_digest.specs.declared.Sha1.{Sha1}
+use Rattle.sha1_digest.specs.Machine.{fresh, fed_all}
+use Rattle.sha1_digest.specs.Id.{salt_bytes}
 use Rattle.line.specs.declared.Line.{Line}
 use Rattle.talk.specs.declared.Terms.{Terms}
 use Rattle.talk.specs.declared.Session.{Session}

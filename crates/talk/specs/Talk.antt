@@ -1,9 +1,9 @@
 -- Document 01, "The receiving session": what a whole line and a whole payload lead to: the reply, what happened, and the session after it.
 use Rattle.std.specs.Prelude.{◌≡◌, ℕ, List, [], ◌++◌}
 use Rattle.octets.specs.Words.{if◌then◌else◌, ◌and◌, ◌=?◌}
-use Rattle.sha1.specs.declared.Sha1.{Sha1}
-use Rattle.sha1.specs.Machine.{finished}
-use Rattle.sha1.specs.Id.{id_number}
+use Rattle.sha1_digest.specs.declared.Sha1.{Sha1}
+use Rattle.sha1_digest.specs.Machine.{finished}
+use Rattle.sha1_digest.specs.Id.{id_number}
 use Rattle.line.specs.declared.Line.{Line}
 use Rattle.line.specs.Reading.{Reading, blank_line, read_of}
 use Rattle.phrases.specs.declared.Kind.{Kind}

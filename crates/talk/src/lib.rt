@@ -1,4 +1,6 @@
 // Document 01, "The receiving session": what a whole line and a whole payload lead to.
+#![tactic(auto)]
+
 ghost use Rattle.std.specs.Prelude.{◌≡◌};
 ghost use Rattle.octets.specs.Bytes.{placed};
 ghost use Rattle.talk.specs.Answer.{says};
@@ -11,7 +13,7 @@ mod states;
 
 use line::Line;
 use replies::Reply;
-use sha1::Sha1;
+use sha1_digest::Sha1;
 
 // The numbers of an offer: its id (28 bits), its salt where it has one, and the payload's length.
 #[derive(Drop)]

@@ -9,7 +9,7 @@ ghost use Rattle.talk.specs.Talk.{Completes, offered, data_heard, heard, reply_d
 use crate::{Due, Ending, Event, Session, Terms, states};
 use line::{Line, LineReading};
 use replies::Reply;
-use sha1::{Salt, Sha1};
+use sha1_digest::{Salt, Sha1};
 
 // A reply, what happened, and the session after it, with no line's fields.
 fn plain(reply: Reply, event: Event, session: Session) -> Due

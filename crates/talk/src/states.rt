@@ -3,7 +3,7 @@ ghost use Rattle.std.specs.Prelude.{◌≡◌, replicate};
 ghost use Rattle.talk.specs.Sessions.{no_terms};
 
 use crate::{Session, Terms};
-use sha1::Sha1;
+use sha1_digest::Sha1;
 
 pub(crate) fn no_terms() -> Terms
     ensures { result ≡ no_terms }

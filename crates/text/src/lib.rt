@@ -1,4 +1,6 @@
 // Text: decimals, and the hex digits of an id and of `chk`.
+#![tactic(auto)]
+
 ghost use Rattle.std.specs.Prelude.{◌≡◌, length};
 ghost use Rattle.octets.specs.Bytes.{fits, placed};
 ghost use Rattle.text.specs.Decimal.{number_of, decimal, signed_of, signed_decimal};

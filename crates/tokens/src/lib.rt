@@ -1,5 +1,7 @@
 // Document 01, "The ihave line": a text cut at a byte, as at a space or at the first `=`.
 // What is answered of a text is a part of the text.
+#![tactic(auto)]
+
 ghost use Rattle.std.specs.Prelude.{◌≡◌, ◌≤◌, length};
 ghost use Rattle.tokens.specs.Cuts.{has, before, after};
 

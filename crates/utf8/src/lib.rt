@@ -1,4 +1,6 @@
 // Well-formed UTF-8: RFC 3629, section 4.
+#![tactic(auto)]
+
 ghost use Rattle.std.specs.Prelude.{◌≡◌};
 ghost use Rattle.utf8.specs.Utf8.{utf8};
 

@@ -1,6 +1,6 @@
 -- A closed session.
 use borrow.Author.Rules.{rules}
-use Rattle.sha1.specs.Machine.{fresh}
+use Rattle.sha1_digest.specs.Machine.{fresh}
 use Rattle.talk.specs.Sessions.{no_terms, closed}
 use Rattle.talk.proofs.Turns.{entered-is}
 use Rattle.talk.proofs.closed.Statement.{statement}

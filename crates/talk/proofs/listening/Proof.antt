@@ -1,6 +1,6 @@
 -- A session between messages.
 use borrow.Author.Rules.{rules}
-use Rattle.sha1.specs.Machine.{fresh}
+use Rattle.sha1_digest.specs.Machine.{fresh}
 use Rattle.talk.specs.Sessions.{no_terms}
 use Rattle.talk.proofs.Turns.{entered-is}
 use Rattle.talk.proofs.listening.Statement.{statement}

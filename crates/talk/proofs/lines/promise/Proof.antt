@@ -3,7 +3,7 @@ use borrow.Author.Rules.{rules}
 use mir.Syntax.{w64}
 use mir.Val.{SFits}
 use mir.ValLaws.{to_z-of_z}
-use Rattle.sha1.specs.Machine.{fresh}
+use Rattle.sha1_digest.specs.Machine.{fresh}
 use Rattle.talk.specs.Sessions.{terms_of}
 use Rattle.talk.proofs.Turns.{entered-is, terms-by, promise-is}
 use Rattle.talk.proofs.lines.promise.Statement.{statement}
