@@ -1,0 +1,17 @@
+-- The base's length, then the suffix.
+use mathlib.Core.Path.{sym, ◌∙◌}
+use borrow.Author.Rules.{rules}
+use Rattle.callsigns.proofs.Callsigns.{base-none, base-long, call-bad, call-good}
+use Rattle.callsigns.proofs.read_callsign.Goals as goal
+
+pub returns-then-base-lt1 : goal.returns-then-base-lt1
+returns-then-base-lt1 c = base-none c.args.s.now c.call_run-base.result c.call_run-base.ensures.0 (search rules)
+
+pub returns-then-base-gt9 : goal.returns-then-base-gt9
+returns-then-base-gt9 c = base-long c.args.s.now c.call_run-base.result c.call_run-base.ensures.0 (search rules)
+
+pub returns-in-Ssid : goal.returns-in-Ssid
+returns-in-Ssid c = call-good c.args.s.now c.call_run-base.result c.call_run-base.ensures.0 _ (search rules) (search rules) (sym c.read_suffix-suffix.ensures ∙ c.in-Ssid.is)
+
+pub returns-in-Bad : goal.returns-in-Bad
+returns-in-Bad c = call-bad c.args.s.now c.call_run-base.result c.call_run-base.ensures.0 (sym c.read_suffix-suffix.ensures ∙ c.in-Bad.is)
