@@ -90,7 +90,7 @@ fn with_salt(mut c: Command, word: &[u8]) -> Command {
 }
 
 // What stands at a place of a word, and how many of its bytes that takes; 0 where it stands for nothing.
-#[derive(Drop)]
+#[derive(Clone, Copy)]
 struct Spelling {
     byte: u8,
     width: usize,

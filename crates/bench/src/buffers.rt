@@ -16,7 +16,7 @@ pub(crate) const REPLY: usize = 64;
 pub(crate) const ROOM: usize = 16384;
 
 // How many bytes of each buffer are lent.
-#[derive(Drop)]
+#[derive(Clone, Copy)]
 pub(crate) struct Lent {
     pub(crate) payload: usize,
     pub(crate) reply: usize,

@@ -12,7 +12,7 @@ pub(crate) const SILENT: u8 = 254;
 
 // The verb is the number of the command's form. Its last number is `t`, which is a time or a room; the numbers before it are `z`, `y`, `x`. Its
 // last bytes stand at the place `b_at` of the line, those before it at `a_at`. An absent argument is no bytes.
-#[derive(Drop)]
+#[derive(Clone, Copy)]
 pub(crate) struct Command {
     pub(crate) verb: u8,
     pub(crate) x: u32,

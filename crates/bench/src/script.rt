@@ -37,7 +37,7 @@ pub(crate) fn run(line: &mut [u8; LINE], memory: &mut [u8; MEMORY], replies: &mu
 }
 
 // A line's length in its buffer, and whether the input ended with it.
-#[derive(Drop)]
+#[derive(Clone, Copy)]
 struct Got {
     len: usize,
     ended: bool,

@@ -8,26 +8,26 @@ ghost use Rattle.callsigns.specs.Destination.{destination, destination_of};
 mod parts;
 
 // A callsign, taken apart: how many bytes its base has, and its SSID, 0 where none is written.
-#[derive(Drop)]
+#[derive(Clone, Copy)]
 pub struct Call {
     pub base: usize,
     pub ssid: u8,
 }
 
-#[derive(Drop)]
+#[derive(Clone, Copy)]
 pub enum Callsign {
     Is(Call),
     Malformed,
 }
 
 // A destination, taken apart: how many bytes its app has, and the callsign behind the `@`.
-#[derive(Drop)]
+#[derive(Clone, Copy)]
 pub struct Address {
     pub app: usize,
     pub call: Call,
 }
 
-#[derive(Drop)]
+#[derive(Clone, Copy)]
 pub enum Destination {
     Is(Address),
     Malformed,

@@ -7,7 +7,7 @@ ghost use Rattle.callsigns.specs.Suffix.{suffix_of, digit_of};
 ghost use Rattle.callsigns.specs.Destination.{app_byte};
 
 // What follows a callsign's base.
-#[derive(Drop)]
+#[derive(Clone, Copy)]
 pub(crate) enum Suffix {
     Ssid(u8),
     Bad,

@@ -13,7 +13,7 @@ use headers::Headers;
 use layout::{Datagram, Flags};
 
 // Fragment, stream, headers.
-#[derive(Drop)]
+#[derive(Clone, Copy)]
 struct OptionsFound {
     ok: bool,
     used: usize,

@@ -10,7 +10,7 @@ use octets::Read32;
 mod fields;
 
 // Read, or refused with the number of the paper's table.
-#[derive(Drop)]
+#[derive(Clone, Copy)]
 pub enum DatagramReading {
     Read,
     Refused(u8),
@@ -18,7 +18,7 @@ pub enum DatagramReading {
 
 // The message, and where the payload stands in the lent datagram; beside a refusal both are blank. The message stands first, so that nothing lies
 // between it and the answer's start: it is then copied once less.
-#[derive(Drop)]
+#[derive(Clone, Copy)]
 pub struct DatagramAnswer {
     pub message: Datagram,
     pub reading: DatagramReading,

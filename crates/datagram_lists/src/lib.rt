@@ -14,7 +14,7 @@ mod headings;
 mod routes;
 
 // Flood hops, source route, traversed hops.
-#[derive(Drop)]
+#[derive(Clone, Copy)]
 pub struct WayFound {
     pub ok: bool,
     pub used: usize,
@@ -23,7 +23,7 @@ pub struct WayFound {
     pub hops: Hops,
 }
 
-#[derive(Drop)]
+#[derive(Clone, Copy)]
 pub struct HeadersFound {
     pub ok: bool,
     pub used: usize,

@@ -11,7 +11,7 @@ use layout::Hops;
 use octets::Read8;
 
 // The array stands first: nothing lies between it and the answer's start, and it is copied less often.
-#[derive(Drop)]
+#[derive(Clone, Copy)]
 struct HopsFound {
     items: [CallText; 16],
     count: usize,
@@ -19,7 +19,7 @@ struct HopsFound {
     used: usize,
 }
 
-#[derive(Drop)]
+#[derive(Clone, Copy)]
 pub(crate) struct RouteFound {
     pub hops: Hops,
     pub ok: bool,

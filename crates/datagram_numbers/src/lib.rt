@@ -14,14 +14,14 @@ use octets::{Read8, Read32};
 
 mod numbers;
 
-#[derive(Drop)]
+#[derive(Clone, Copy)]
 pub struct Found8 {
     pub ok: bool,
     pub used: usize,
     pub value: u8,
 }
 
-#[derive(Drop)]
+#[derive(Clone, Copy)]
 pub struct Found32 {
     pub ok: bool,
     pub used: usize,
@@ -29,7 +29,7 @@ pub struct Found32 {
 }
 
 // Flags, id, salt, ttl.
-#[derive(Drop)]
+#[derive(Clone, Copy)]
 pub struct OpeningFound {
     pub ok: bool,
     pub used: usize,
@@ -40,7 +40,7 @@ pub struct OpeningFound {
 }
 
 // Master id, index, total.
-#[derive(Drop)]
+#[derive(Clone, Copy)]
 pub struct FragmentFound {
     pub ok: bool,
     pub used: usize,

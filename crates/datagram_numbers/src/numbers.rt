@@ -11,21 +11,21 @@ use layout::Flags;
 use octets::{Read16, ReadSigned};
 use text::Id;
 
-#[derive(Drop)]
+#[derive(Clone, Copy)]
 struct Found16 {
     ok: bool,
     used: usize,
     value: u16,
 }
 
-#[derive(Drop)]
+#[derive(Clone, Copy)]
 struct FoundSigned {
     ok: bool,
     used: usize,
     value: i64,
 }
 
-#[derive(Drop)]
+#[derive(Clone, Copy)]
 struct FlagsFound {
     ok: bool,
     used: usize,

@@ -14,14 +14,14 @@ use layout::Flags;
 mod blanks;
 mod texts;
 
-#[derive(Drop)]
+#[derive(Clone, Copy)]
 pub struct HopFound {
     pub ok: bool,
     pub used: usize,
     pub hop: CallText,
 }
 
-#[derive(Drop)]
+#[derive(Clone, Copy)]
 pub struct HeaderFound {
     pub ok: bool,
     pub used: usize,
@@ -29,7 +29,7 @@ pub struct HeaderFound {
 }
 
 // Destination, originator, link source.
-#[derive(Drop)]
+#[derive(Clone, Copy)]
 pub struct EndsFound {
     pub ok: bool,
     pub used: usize,
@@ -39,7 +39,7 @@ pub struct EndsFound {
 }
 
 // Stream id, number, gap timeout.
-#[derive(Drop)]
+#[derive(Clone, Copy)]
 pub struct StreamFound {
     pub ok: bool,
     pub used: usize,

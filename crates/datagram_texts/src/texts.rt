@@ -10,28 +10,28 @@ use envelope::{AddressText, CallText, StreamText};
 use octets::{Read8, Read16};
 
 // The bytes of a text: where they begin, and where they end.
-#[derive(Drop)]
+#[derive(Clone, Copy)]
 pub(crate) struct Span {
     pub ok: bool,
     pub from: usize,
     pub to: usize,
 }
 
-#[derive(Drop)]
+#[derive(Clone, Copy)]
 pub(crate) struct CallFound {
     pub ok: bool,
     pub used: usize,
     pub text: CallText,
 }
 
-#[derive(Drop)]
+#[derive(Clone, Copy)]
 pub(crate) struct AddressFound {
     pub ok: bool,
     pub used: usize,
     pub text: AddressText,
 }
 
-#[derive(Drop)]
+#[derive(Clone, Copy)]
 pub(crate) struct NameFound {
     pub ok: bool,
     pub used: usize,

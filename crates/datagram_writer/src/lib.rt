@@ -7,7 +7,7 @@ ghost use Rattle.datagram_writer.specs.Answer.{says, write_of, write_left};
 use layout::Datagram;
 
 // How many bytes were written, or the number of the paper's table.
-#[derive(Drop)]
+#[derive(Clone, Copy)]
 pub enum DatagramWriting {
     Written(usize),
     Refused(u8),

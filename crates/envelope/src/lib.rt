@@ -12,28 +12,28 @@ pub use held_texts::{header_text, with_header};
 mod rules;
 
 // A callsign: the first `len` bytes.
-#[derive(Drop)]
+#[derive(Clone, Copy)]
 pub struct CallText {
     pub len: usize,
     pub bytes: [u8; 12],
 }
 
 // A destination: the first `len` bytes.
-#[derive(Drop)]
+#[derive(Clone, Copy)]
 pub struct AddressText {
     pub len: usize,
     pub bytes: [u8; 45],
 }
 
 // A stream id: the first `len` bytes.
-#[derive(Drop)]
+#[derive(Clone, Copy)]
 pub struct StreamText {
     pub len: usize,
     pub bytes: [u8; 255],
 }
 
 // The shared fields, in the order in which the line's writer has them, each that may be absent behind its flag.
-#[derive(Drop)]
+#[derive(Clone, Copy)]
 pub struct Envelope {
     pub id: u32,
     pub has_salt: bool,

@@ -11,7 +11,7 @@ mod calls;
 
 use groups::{Found, Groups};
 
-#[derive(Drop)]
+#[derive(Clone, Copy)]
 pub enum Answer {
     // A fragment was added to this group.
     Added(usize),
@@ -21,13 +21,13 @@ pub enum Answer {
     Refused(u8),
 }
 
-#[derive(Drop)]
+#[derive(Clone, Copy)]
 pub struct Served {
     pub answer: Answer,
     pub groups: Groups,
 }
 
-#[derive(Drop)]
+#[derive(Clone, Copy)]
 pub enum Standing {
     Complete,
     Incomplete,
@@ -35,7 +35,7 @@ pub enum Standing {
 }
 
 // Fragment N of M: its number, M, its length, and when it came.
-#[derive(Drop)]
+#[derive(Clone, Copy)]
 pub struct Fragment {
     pub number: usize,
     pub total: usize,

@@ -8,7 +8,7 @@ ghost use Rattle.groupkeys.specs.Key.{same_key, keeps_key, no_key, named_of};
 mod parts;
 
 // A group's key: its originator, which may be absent, and its master id. The originator stands in the front of its array; the bytes past it are zero.
-#[derive(Drop)]
+#[derive(Clone, Copy)]
 pub struct Key {
     pub has_originator: bool,
     pub originator: [u8; 12],
@@ -17,7 +17,7 @@ pub struct Key {
 }
 
 // A key, or the number of a refusal, which is 0 where there is a key.
-#[derive(Drop)]
+#[derive(Clone, Copy)]
 pub struct Named {
     pub refusal: u8,
     pub key: Key,

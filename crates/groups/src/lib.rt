@@ -16,14 +16,14 @@ pub const PLACE: usize = 1024;
 pub const STORE: usize = 64 * PLACE;
 
 // Whether a fragment is held, and how long it is.
-#[derive(Drop)]
+#[derive(Clone, Copy)]
 pub struct Piece {
     pub held: bool,
     pub len: u16,
 }
 
 // A group with its key, M, when its first fragment came, and its fragments 1 to 16; or a free one, all zero.
-#[derive(Drop)]
+#[derive(Clone, Copy)]
 pub struct Group {
     pub is_open: bool,
     pub key: Key,
@@ -32,13 +32,13 @@ pub struct Group {
     pub pieces: [Piece; 16],
 }
 
-#[derive(Drop)]
+#[derive(Clone, Copy)]
 pub struct Groups {
     pub items: [Group; 4],
 }
 
 // The number of a group, where a search found one.
-#[derive(Drop)]
+#[derive(Clone, Copy)]
 pub enum Found {
     At(usize),
     Nothing,

@@ -7,7 +7,7 @@ ghost use Rattle.headers.specs.Keys.{all_differ, key_of, keys_of};
 ghost use Rattle.headers.specs.Rule.{header, headers};
 
 // A header: the first `key_len` bytes of `key` and the first `value_len` of `value`.
-#[derive(Drop)]
+#[derive(Clone, Copy)]
 pub struct Header {
     pub key: [u8; 32],
     pub key_len: usize,
@@ -16,7 +16,7 @@ pub struct Header {
 }
 
 // The headers of a message: the first `count` of the items.
-#[derive(Drop)]
+#[derive(Clone, Copy)]
 pub struct Headers {
     pub items: [Header; 8],
     pub count: usize,

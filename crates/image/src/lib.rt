@@ -12,14 +12,14 @@ use rows::Accepting;
 use streams::{Count, Table};
 
 // How many bytes were written, or the number of a refusal.
-#[derive(Drop)]
+#[derive(Clone, Copy)]
 pub enum Saved {
     Written(usize),
     Refused(u8),
 }
 
 // The table is the image's, or in a refusal the one that came.
-#[derive(Drop)]
+#[derive(Clone, Copy)]
 pub struct Loaded {
     pub answer: Accepting,
     pub table: Table,

@@ -13,7 +13,7 @@ use streams::Table;
 
 // The table of the rows that an image begins with, how many bytes they took and how many are open; where its bytes are no rows of a table
 // that keeps the rules, an empty table.
-#[derive(Drop)]
+#[derive(Clone, Copy)]
 pub struct RowsRead {
     pub good: bool,
     pub used: usize,

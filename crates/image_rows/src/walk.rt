@@ -5,7 +5,7 @@ ghost use Rattle.image_rows.specs.Steps.{slot_read};
 
 use slots::Slot;
 
-#[derive(Drop)]
+#[derive(Clone, Copy)]
 pub(crate) struct SlotRead {
     pub good: bool,
     pub used: usize,

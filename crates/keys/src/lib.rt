@@ -5,7 +5,7 @@ ghost use Rattle.std.specs.Prelude.{◌≡◌};
 ghost use Rattle.keys.specs.Key.{no_key, same_key, named_of, keeps_key, is_no_key, stream_id_of, mark_of};
 
 // The names stand in the front of the arrays; the bytes past them are zero.
-#[derive(Drop)]
+#[derive(Clone, Copy)]
 pub struct Key {
     pub originator: [u8; 12],
     pub originator_len: usize,
@@ -14,7 +14,7 @@ pub struct Key {
 }
 
 // A key, or the number of a refusal, which is 0 where there is a key.
-#[derive(Drop)]
+#[derive(Clone, Copy)]
 pub struct Named {
     pub refusal: u8,
     pub key: Key,

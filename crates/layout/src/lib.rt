@@ -11,14 +11,14 @@ ghost use Rattle.layout.specs.Texts.{no_hops, blank_datagram};
 use envelope::{CallText, Envelope};
 
 // Source route or traversed hops: the first `count` of the items.
-#[derive(Drop)]
+#[derive(Clone, Copy)]
 pub struct Hops {
     pub count: usize,
     pub items: [CallText; 16],
 }
 
 // The ten flags, bit 0 first: which fields a datagram has.
-#[derive(Drop)]
+#[derive(Clone, Copy)]
 pub struct Flags {
     pub salt: bool,
     pub ttl: bool,
@@ -33,7 +33,7 @@ pub struct Flags {
 }
 
 // A message as a datagram carries it: the fields that a line has too, and those that only a datagram has.
-#[derive(Drop)]
+#[derive(Clone, Copy)]
 pub struct Datagram {
     pub fields: Envelope,
     pub has_link: bool,

@@ -9,21 +9,21 @@ ghost use Rattle.line.specs.Steps.{right_chk, refused_by};
 use envelope::Envelope;
 
 // An offer as the line has it: the payload's length, and the fields that a datagram has too.
-#[derive(Drop)]
+#[derive(Clone, Copy)]
 pub struct Line {
     pub len: u32,
     pub fields: Envelope,
 }
 
 // Whether a line was read; `Refused` has the paper's number.
-#[derive(Drop)]
+#[derive(Clone, Copy)]
 pub enum LineReading {
     Read,
     Refused(u8),
 }
 
 // In a refusal the line is blank: all zero, every flag clear.
-#[derive(Drop)]
+#[derive(Clone, Copy)]
 pub struct LineAnswer {
     pub reading: LineReading,
     pub line: Line,

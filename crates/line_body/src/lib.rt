@@ -11,7 +11,7 @@ use line::Line;
 mod parts;
 
 // A body: the first `len` bytes, zero past them; 513 where it is too long for a line.
-#[derive(Drop)]
+#[derive(Clone, Copy)]
 pub struct Body {
     pub bytes: [u8; 512],
     pub len: usize,

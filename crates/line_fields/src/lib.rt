@@ -12,7 +12,7 @@ use headers::Headers;
 use line_groups::{Fragment, Payload, Singles, Stream};
 use line_places::Place;
 
-#[derive(Drop)]
+#[derive(Clone, Copy)]
 pub struct Values {
     pub good: bool,
     pub len: u32,

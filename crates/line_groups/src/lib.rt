@@ -9,7 +9,7 @@ ghost use Rattle.line_groups.specs.Answers.{payload_by, singles_by, fragment_by,
 mod blanks;
 
 // `len`, and whether `fmt` is `d`.
-#[derive(Drop)]
+#[derive(Clone, Copy)]
 pub struct Payload {
     pub good: bool,
     pub len: u32,
@@ -17,7 +17,7 @@ pub struct Payload {
 }
 
 // `s`, `ttl` and `chk`, each behind its flag.
-#[derive(Drop)]
+#[derive(Clone, Copy)]
 pub struct Singles {
     pub good: bool,
     pub has_salt: bool,
@@ -29,7 +29,7 @@ pub struct Singles {
 }
 
 // `mid` and `frag=N/M`.
-#[derive(Drop)]
+#[derive(Clone, Copy)]
 pub struct Fragment {
     pub good: bool,
     pub given: bool,
@@ -39,7 +39,7 @@ pub struct Fragment {
 }
 
 // `sn` and `gt`, and whether they are there, as `sid` then is.
-#[derive(Drop)]
+#[derive(Clone, Copy)]
 pub struct Stream {
     pub good: bool,
     pub given: bool,

@@ -8,7 +8,7 @@ ghost use Rattle.line_places.specs.Places.{no_place, place_at, no_places, places
 use headers::Headers;
 
 // Where the value of a key stands in the text, and whether the key is there at all.
-#[derive(Drop)]
+#[derive(Clone, Copy)]
 pub struct Place {
     pub given: bool,
     pub start: usize,
@@ -16,7 +16,7 @@ pub struct Place {
 }
 
 // The places of the reserved keys in the order of their table, and the headers.
-#[derive(Drop)]
+#[derive(Clone, Copy)]
 pub struct Places {
     pub good: bool,
     pub slots: [Place; 13],

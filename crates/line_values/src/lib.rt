@@ -5,31 +5,31 @@
 ghost use Rattle.std.specs.Prelude.{◌≡◌, ◌≤◌};
 ghost use Rattle.line_values.specs.Values.{decimal_of, master_of, no_part, part_of, number_if, salt_if, chk_if};
 
-#[derive(Drop)]
+#[derive(Clone, Copy)]
 pub struct Decimal {
     pub good: bool,
     pub number: u64,
 }
 
-#[derive(Drop)]
+#[derive(Clone, Copy)]
 pub struct Salt {
     pub good: bool,
     pub salt: i64,
 }
 
-#[derive(Drop)]
+#[derive(Clone, Copy)]
 pub struct Chk {
     pub good: bool,
     pub chk: u16,
 }
 
-#[derive(Drop)]
+#[derive(Clone, Copy)]
 pub struct Master {
     pub good: bool,
     pub id: u32,
 }
 
-#[derive(Drop)]
+#[derive(Clone, Copy)]
 pub struct Part {
     pub good: bool,
     pub index: u16,

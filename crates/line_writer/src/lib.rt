@@ -9,7 +9,7 @@ ghost use Rattle.line_writer.specs.Steps.{chk_text};
 use line::Line;
 
 // How many bytes were written, or the paper's number.
-#[derive(Drop)]
+#[derive(Clone, Copy)]
 pub enum LineWriting {
     Written(usize),
     Refused(u8),

@@ -5,7 +5,7 @@ ghost use Rattle.std.specs.Prelude.{◌≡◌};
 ghost use Rattle.lookups.specs.Lookup.{standing_of, known_target, offer_target};
 
 // What stands for a key: a refusal, the place of its row, or no row.
-#[derive(Drop)]
+#[derive(Clone, Copy)]
 pub enum Lookup {
     Refused(u8),
     Open(usize),
@@ -13,7 +13,7 @@ pub enum Lookup {
 }
 
 // The place of the row that a call is about, or a refusal.
-#[derive(Drop)]
+#[derive(Clone, Copy)]
 pub enum Target {
     Refused(u8),
     At(usize),

@@ -9,7 +9,7 @@ mod texts;
 mod words;
 
 // A key's spelling, padded: its first `len` bytes.
-#[derive(Drop)]
+#[derive(Clone, Copy)]
 pub struct Word {
     pub text: [u8; 4],
     pub len: usize,

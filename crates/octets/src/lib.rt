@@ -11,31 +11,31 @@ ghost use Rattle.octets.specs.Reading.{read8, read16, read32, read64, read_signe
 mod numbers;
 
 // What reading a number from the front of a part finds: the number with the bytes used, or a part too short for it.
-#[derive(Drop)]
+#[derive(Clone, Copy)]
 pub enum Read8 {
     Got(u8, usize),
     Short,
 }
 
-#[derive(Drop)]
+#[derive(Clone, Copy)]
 pub enum Read16 {
     Got(u16, usize),
     Short,
 }
 
-#[derive(Drop)]
+#[derive(Clone, Copy)]
 pub enum Read32 {
     Got(u32, usize),
     Short,
 }
 
-#[derive(Drop)]
+#[derive(Clone, Copy)]
 pub enum Read64 {
     Got(u64, usize),
     Short,
 }
 
-#[derive(Drop)]
+#[derive(Clone, Copy)]
 pub enum ReadSigned {
     Got(i64, usize),
     Short,

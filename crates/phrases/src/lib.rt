@@ -7,7 +7,7 @@ ghost use Rattle.phrases.specs.Lines.{kind_of, is_data};
 mod lines;
 
 // `ihave` and `data`; a wish to leave (`quit`, `q`, `bye`, `exit`); a question (`help`, `info`); all else.
-#[derive(Drop)]
+#[derive(Clone, Copy)]
 pub enum Kind {
     Ihave,
     Data,

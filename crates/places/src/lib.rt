@@ -7,7 +7,7 @@ ghost use Rattle.places.specs.Messages.{ascending, holds, gap_open};
 ghost use Rattle.places.specs.Places.{blank, is_blank, place_for};
 
 // A message that waits: its number, how long a gap before it may stand open (0: for ever), and the slip under which the host keeps it.
-#[derive(Drop)]
+#[derive(Clone, Copy)]
 pub struct Held {
     pub number: u32,
     pub timeout: u32,

@@ -10,7 +10,7 @@ use keys::Key;
 use rows::Row;
 
 // Where the bytes are a record: the bytes used, the key and the row. Where they are not: all zero.
-#[derive(Drop)]
+#[derive(Clone, Copy)]
 pub struct Reading {
     pub good: bool,
     pub used: usize,

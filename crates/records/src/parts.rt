@@ -11,14 +11,14 @@ use places::Held;
 use rows::Row;
 
 // How many bytes a text has, which stand behind its length.
-#[derive(Drop)]
+#[derive(Clone, Copy)]
 pub(crate) enum Text {
     Is(usize),
     Bad,
 }
 
 // What stands before a row's messages.
-#[derive(Drop)]
+#[derive(Clone, Copy)]
 pub(crate) struct Head {
     pub expected: u64,
     pub clock: u32,
@@ -26,33 +26,33 @@ pub(crate) struct Head {
     pub count: usize,
 }
 
-#[derive(Drop)]
+#[derive(Clone, Copy)]
 pub(crate) enum Heading {
     Is(Head),
     Bad,
 }
 
-#[derive(Drop)]
+#[derive(Clone, Copy)]
 pub(crate) enum Message {
     Is(Held),
     Bad,
 }
 
-#[derive(Drop)]
+#[derive(Clone, Copy)]
 pub(crate) struct KeyRead {
     pub good: bool,
     pub used: usize,
     pub key: Key,
 }
 
-#[derive(Drop)]
+#[derive(Clone, Copy)]
 pub(crate) struct MessagesRead {
     pub good: bool,
     pub used: usize,
     pub held: [Held; 16],
 }
 
-#[derive(Drop)]
+#[derive(Clone, Copy)]
 pub(crate) struct RowRead {
     pub good: bool,
     pub used: usize,

@@ -9,7 +9,7 @@ mod texts;
 
 // What is said: nothing; the prompt; `send ID`; `error`, alone or with the token of the line; `ack ID` or `bad ID`, then the prompt; `bye`;
 // the help text and `eh?`, each with the prompt.
-#[derive(Drop)]
+#[derive(Clone, Copy)]
 pub enum Reply {
     Silence,
     Prompt,

@@ -12,7 +12,7 @@ mod calls;
 use places::Held;
 
 // The held messages are the first `count` of the sixteen, in ascending number; the places past them are all zero.
-#[derive(Drop)]
+#[derive(Clone, Copy)]
 pub struct Row {
     pub expected: u64,
     pub clock: u32,
@@ -21,27 +21,27 @@ pub struct Row {
     pub held: [Held; 16],
 }
 
-#[derive(Drop)]
+#[derive(Clone, Copy)]
 pub enum Accepting {
     Accepted,
     Refused(u8),
 }
 
 // `Given` has the message's number and slip.
-#[derive(Drop)]
+#[derive(Clone, Copy)]
 pub enum Giving {
     Given(u32, u32),
     Nothing,
     Refused(u8),
 }
 
-#[derive(Drop)]
+#[derive(Clone, Copy)]
 pub struct Offered {
     pub answer: Accepting,
     pub row: Row,
 }
 
-#[derive(Drop)]
+#[derive(Clone, Copy)]
 pub struct Taken {
     pub answer: Giving,
     pub row: Row,

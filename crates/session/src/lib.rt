@@ -14,14 +14,14 @@ pub use session_rules::LONGEST_REPLY;
 use talk::{Event, Session};
 
 // Whether a call was made, or refused by the paper's number.
-#[derive(Drop)]
+#[derive(Clone, Copy)]
 pub enum Stepping {
     Went,
     Refused(u8),
 }
 
 // A step's record: the bytes used, what happened, the bytes of the reply, the fields of an offer's line, and the session after it.
-#[derive(Drop)]
+#[derive(Clone, Copy)]
 pub struct Step {
     pub stepping: Stepping,
     pub used: usize,
@@ -31,7 +31,7 @@ pub struct Step {
     pub session: Session,
 }
 
-#[derive(Drop)]
+#[derive(Clone, Copy)]
 pub struct Opened {
     pub stepping: Stepping,
     pub written: usize,

@@ -8,7 +8,7 @@ ghost use Rattle.sha1_block.specs.Block as fips;
 mod block;
 
 // The five words of a hash value.
-#[derive(Drop)]
+#[derive(Clone, Copy)]
 pub struct Hash {
     pub a: u32,
     pub b: u32,

@@ -10,7 +10,7 @@ mod pieces;
 use sha1_block::Hash;
 
 // A hash that is being fed. Every value is a state: the bytes of `block` that wait are the first `total % 64`.
-#[derive(Drop)]
+#[derive(Clone, Copy)]
 pub struct Sha1 {
     pub h: Hash,
     pub block: [u8; 64],
@@ -18,14 +18,14 @@ pub struct Sha1 {
 }
 
 // The salt of a message, where one is given.
-#[derive(Drop)]
+#[derive(Clone, Copy)]
 pub struct Salt {
     pub given: bool,
     pub value: i64,
 }
 
 // An id is a number of 28 bits.
-#[derive(Drop)]
+#[derive(Clone, Copy)]
 pub enum IdAnswer {
     Is(u32),
     Refused(u8),

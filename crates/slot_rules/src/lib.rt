@@ -11,7 +11,7 @@ use slots::Slot;
 
 // Whether the slots keep their rules; the place of the first that has a key and of the first that is free, 32 where there is none; and how
 // many are open.
-#[derive(Drop)]
+#[derive(Clone, Copy)]
 pub struct Ruled {
     pub good: bool,
     pub found: usize,

@@ -8,7 +8,7 @@ ghost use Rattle.slots.specs.Slot.{free_slot, keeps_open, keeps_free, has_key, s
 use keys::Key;
 use rows::Row;
 
-#[derive(Drop)]
+#[derive(Clone, Copy)]
 pub struct Slot {
     pub is_open: bool,
     pub key: Key,

@@ -15,31 +15,31 @@ use lookups::Target;
 use rows::{Accepting, Giving, Row};
 use slots::Slot;
 
-#[derive(Drop)]
+#[derive(Clone, Copy)]
 pub struct Table {
     pub slots: [Slot; 32],
 }
 
 // The table stands first, so that nothing lies between it and the answer's start: what is handed back is then copied once.
-#[derive(Drop)]
+#[derive(Clone, Copy)]
 pub struct Served {
     pub table: Table,
     pub answer: Accepting,
 }
 
-#[derive(Drop)]
+#[derive(Clone, Copy)]
 pub struct Taken {
     pub table: Table,
     pub answer: Giving,
 }
 
-#[derive(Drop)]
+#[derive(Clone, Copy)]
 pub enum Count {
     Rows(usize),
     Refused(u8),
 }
 
-#[derive(Drop)]
+#[derive(Clone, Copy)]
 pub struct Shown {
     pub answer: Accepting,
     pub key: Key,

@@ -16,7 +16,7 @@ use replies::Reply;
 use sha1_digest::Sha1;
 
 // The numbers of an offer: its id (28 bits), its salt where it has one, and the payload's length.
-#[derive(Drop)]
+#[derive(Clone, Copy)]
 pub struct Terms {
     pub id: u32,
     pub has_salt: bool,
@@ -25,13 +25,13 @@ pub struct Terms {
 }
 
 // Why a session ended: 0 after `bye`, 1 to 4 from a line, else 1.
-#[derive(Drop)]
+#[derive(Clone, Copy)]
 pub struct Ending {
     pub reason: u8,
 }
 
 // What happened.
-#[derive(Drop)]
+#[derive(Clone, Copy)]
 pub enum Event {
     Nothing,
     Offer(Terms),
@@ -41,7 +41,7 @@ pub enum Event {
 
 // Mode 0: between messages. 1: an offer waits for its data line. 2: its payload comes. 3: closed. The line so far is the first `line_len`
 // bytes of `line`, zero past them; `got` bytes of the payload have come, and `hash` is their running digest.
-#[derive(Drop)]
+#[derive(Clone, Copy)]
 pub struct Session {
     pub mode: u8,
     pub line_len: usize,
@@ -52,7 +52,7 @@ pub struct Session {
 }
 
 // What was said and what happened: the bytes written, the event with the fields of its line, and the session after it.
-#[derive(Drop)]
+#[derive(Clone, Copy)]
 pub struct Said {
     pub written: usize,
     pub event: Event,
@@ -61,7 +61,7 @@ pub struct Said {
 }
 
 // What is due: the reply, what happened with the fields of its line, and the session after it.
-#[derive(Drop)]
+#[derive(Clone, Copy)]
 pub(crate) struct Due {
     pub reply: Reply,
     pub event: Event,

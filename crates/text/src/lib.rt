@@ -10,28 +10,28 @@ mod decimal;
 mod digits;
 
 // An unsigned decimal, read.
-#[derive(Drop)]
+#[derive(Clone, Copy)]
 pub enum Number {
     Is(u64),
     Malformed,
 }
 
 // A signed decimal, read.
-#[derive(Drop)]
+#[derive(Clone, Copy)]
 pub enum Signed {
     Is(i64),
     Malformed,
 }
 
 // An id, read: a number below 2 ^ 28.
-#[derive(Drop)]
+#[derive(Clone, Copy)]
 pub enum Id {
     Is(u32),
     Malformed,
 }
 
 // A `chk`, read.
-#[derive(Drop)]
+#[derive(Clone, Copy)]
 pub enum Chk {
     Is(u16),
     Malformed,
