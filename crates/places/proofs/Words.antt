@@ -2,7 +2,7 @@
 use mathlib.Core.Path.{◌≡◌, refl}
 use Prim.Native.Nat.{ℕ, zero, suc}
 use mathlib.Core.Bool.{true}
-use mathlib.Core.List.{List, [], ◌∷◌, map}
+use mathlib.Core.List.{List, [], ◌∷◌}
 use lib.ListN.{take}
 use mir.Val.{Val}
 use denote.Shadow.{shadow}
@@ -14,7 +14,7 @@ use Rattle.places.specs.declared.Held.{Held}
 use Rattle.places.specs.Messages.{words}
 use Rattle.places.specs.contracts.Held as held
 
-pub each-words : (l : List Held) (us : List Val) → shadow (each (held.the_field).row.Denot (held.the_field).row.own_val (map (held.the_type).to l) us) → every words l ≡ true
+pub each-words : (l : List Held) (us : List Val) → shadow (each (held.the_row).Denot (held.the_row).own_val l us) → every words l ≡ true
 each-words [] us p = refl
 each-words (m ∷ l) [] p = absurd p
 each-words (m ∷ l) (u ∷ us) p =

@@ -1,11 +1,12 @@
 -- A row that the code is handed has numbers of 32 bits in its places: what its type says, as the logic has it.
 use mathlib.Core.Path.{◌≡◌}
-use Prim.Native.Nat.{◌<◌}
+use Prim.Native.Nat.{ℕ, ◌<◌}
 use mathlib.Core.Bool.{true}
-use mathlib.Core.List.{List, map}
+use mathlib.Core.List.{List}
 use mir.Val.{Val}
 use denote.Shadow.{shadow}
-use denote.Struct.Field.{array_field}
+use denote.Struct.Field.{row_field}
+use denote.Builtin.{Array}
 use borrow.Author.Tests.{lt-ltb}
 use Rattle.octets.proofs.Tests.{and_both}
 use Rattle.places.specs.contracts.Held as held
@@ -14,5 +15,5 @@ use Rattle.rows.specs.declared.Row.{Row}
 use Rattle.rows.specs.Stream.{small}
 use Rattle.rows.specs.Row.{stream_of}
 
-pub small_row : (r : Row) (vs : List Val) → r.clock < 4294967296 → shadow ((array_field held.the_field 16).row.own_val (map (held.the_type).to r.held) vs) → small (stream_of r) ≡ true
+pub small_row : (r : Row) (vs : List Val) → r.clock < 4294967296 → shadow ((row_field (Array held.the_row (tt {0}) 16)).row.own_val r.held vs) → small (stream_of r) ≡ true
 small_row r vs c p = and_both _ _ (lt-ltb _ _ c) (every_front r.count r.held (each-words r.held p.0 p.1.1))
