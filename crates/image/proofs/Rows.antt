@@ -16,7 +16,7 @@ use Rattle.octets.proofs.Lists.{same-eq}
 use Rattle.octets.proofs.NumberLaws.{bytes_drop}
 use Rattle.octets.proofs.FieldLaws.{bound}
 use Rattle.keys.specs.Key.{keeps_key, is_no_key}
-use Rattle.keys.proofs.Names.{no_key}
+use Rattle.keys.proofs.Names.{no-key}
 use Rattle.rows.specs.Row.{keeps_row}
 use Rattle.rows.proofs.Rules.{no-row}
 use Rattle.slots.specs.declared.Slot.{Slot}
@@ -43,7 +43,7 @@ open-or-free x e = go x.is_open refl
         inl (record { used = u; key = and_left (keeps_key x.key) _ f; row = and_right (keeps_key x.key) _ f })
     go false u =
         let f = sym (if_no _ _ _ u) ∙ e in
-        let k = no_key x.key (and_left (is_no_key x.key) _ f) in
+        let k = no-key x.key (and_left (is_no_key x.key) _ f) in
         let r = no-row x.row (and_right (is_no_key x.key) _ f) in
         inr (λ i. record { is_open = u i; key = k i; row = r i })
 

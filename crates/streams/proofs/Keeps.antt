@@ -9,7 +9,7 @@ use Rattle.octets.proofs.Tests.{if_yes, if_no, and_left, and_right, and_both, tr
 use Rattle.octets.proofs.Lists.{every-at}
 use Rattle.keys.specs.declared.Key.{Key}
 use Rattle.keys.specs.Key.{keeps_key, is_no_key}
-use Rattle.keys.proofs.Names.{no_key}
+use Rattle.keys.proofs.Names.{no-key}
 use Rattle.rows.proofs.Rules.{no-row}
 use Rattle.places.specs.declared.Held.{Held}
 use Rattle.rows.specs.declared.Row.{Row}
@@ -59,7 +59,7 @@ pub free-is : (x : Slot) → x.is_open ≡ false → keeps_slot x ≡ true → x
 unfolding keeps_slot
 free-is x u e =
     let f = sym (if_no _ _ _ u) ∙ e in
-    let k = no_key x.key (and_left (is_no_key x.key) _ f) in
+    let k = no-key x.key (and_left (is_no_key x.key) _ f) in
     let r = no-row x.row (and_right (is_no_key x.key) _ f) in
     λ i. record { is_open = u i; key = k i; row = r i }
 

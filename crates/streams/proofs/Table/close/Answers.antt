@@ -1,0 +1,28 @@
+-- The target decides: refused, or still holding, or the row is free.
+use mathlib.Core.Path.{refl, sym, ap, ◌∙◌}
+use borrow.Author.Rules.{rules}
+use Rattle.lookups.specs.Lookup.{known_target}
+use Rattle.streams.specs.Calls.{close_by}
+use Rattle.streams.proofs.Lookups.{look_is, not_known, is_known, known-bound, closed-not, closed_at, close-by}
+use Rattle.streams.proofs.Table.close.Goals as goal
+
+pub returns-in-Refused : goal.returns-in-Refused
+returns-in-Refused c = not_known c.args.self c.name-named.result (close_by c.args.self) (λ n. refl) refl _ (sym c.in-Refused.is ∙ c.known-p.ensures ∙ ap known_target (look_is c.args.self c.name-named.result c.test-r.result c.test-r.ensures)) ∙ close-by c.args.self _ _ c.name-named.result c.name-named.ensures
+
+pub offset_bounds-self-i : goal.offset_bounds-self-i
+offset_bounds-self-i c = let b = known-bound c.args.self c.name-named.result _ (sym c.in-At.is ∙ c.known-p.ensures ∙ ap known_target (look_is c.args.self c.name-named.result c.test-r.result c.test-r.ensures)) in search rules
+
+pub bounds-self-i : goal.bounds-self-i
+bounds-self-i c = let b = known-bound c.args.self c.name-named.result _ (sym c.in-At.is ∙ c.known-p.ensures ∙ ap known_target (look_is c.args.self c.name-named.result c.test-r.result c.test-r.ensures)) in search rules
+
+pub returns-then-x-ne0 : goal.returns-then-x-ne0
+returns-then-x-ne0 c = closed-not c.args.self _ c.if-x-ne0.true ∙ is_known c.args.self c.name-named.result (close_by c.args.self) (λ n. refl) refl _ (sym c.in-At.is ∙ c.known-p.ensures ∙ ap known_target (look_is c.args.self c.name-named.result c.test-r.result c.test-r.ensures)) ∙ close-by c.args.self _ _ c.name-named.result c.name-named.ensures
+
+pub offset_bounds-self-i-2 : goal.offset_bounds-self-i-2
+offset_bounds-self-i-2 c = let b = known-bound c.args.self c.name-named.result _ (sym c.in-At.is ∙ c.known-p.ensures ∙ ap known_target (look_is c.args.self c.name-named.result c.test-r.result c.test-r.ensures)) in search rules
+
+pub bounds-self-i-2 : goal.bounds-self-i-2
+bounds-self-i-2 c = let b = known-bound c.args.self c.name-named.result _ (sym c.in-At.is ∙ c.known-p.ensures ∙ ap known_target (look_is c.args.self c.name-named.result c.test-r.result c.test-r.ensures)) in search rules
+
+pub returns : goal.returns
+returns c = closed_at c.args.self _ _ c.if-x-ne0.false c.free.ensures ∙ is_known c.args.self c.name-named.result (close_by c.args.self) (λ n. refl) refl _ (sym c.in-At.is ∙ c.known-p.ensures ∙ ap known_target (look_is c.args.self c.name-named.result c.test-r.result c.test-r.ensures)) ∙ close-by c.args.self _ _ c.name-named.result c.name-named.ensures
