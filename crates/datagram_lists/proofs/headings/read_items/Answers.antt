@@ -37,4 +37,4 @@ pub loop-i-preserved : goal.loop-i-preserved
 loop-i-preserved c = (omega (arith, c.loop-i-test.true), omega (arith, (said says-header header header-laws (tail c.loop-i.at c.args.d.now) c.read_header-h.result c.read_header-h.ensures).1, tail-length c.loop-i.at c.args.d.now, c.loop-i.invariant.1), rw length-set c.loop-i.invariant.2, loop-next header with_header c.args.k c.loop-i.i c.loop-i.at c.read_header-h.result.used _ _ _ c.args.d.now _ c.loop-i-test.true c.loop-i.invariant.3 (is_found _ (tail c.loop-i.at c.args.d.now) _ _ _ (said says-header header header-laws (tail c.loop-i.at c.args.d.now) c.read_header-h.result c.read_header-h.ensures) (not-false _ c.if-not-h.false)) (header-added c.loop-i.items c.loop-i.i _ _ (omega (arith, c.requires.1, c.loop-i-test.true)) refl))
 
 pub returns : goal.returns
-returns c = let z : c.loop-i.i ≡ c.args.k = omega (arith, c.loop-i.invariant.0, c.loop-i-test.false) in sym (ap headers_found (loop-end header with_header c.args.k c.loop-i.i c.loop-i.at _ c.args.d.now _ z c.loop-i.invariant.3 ∙ ap (λ (c : ℕ). got (record { items = c.loop-i.items; count = c }) c.loop-i.at) z))
+returns c = let z : c.loop-i.i ≡ c.args.k = omega (arith, c.loop-i.invariant.0, c.loop-i-test.false) in sym (ap headers_found (loop-end header with_header c.args.k c.loop-i.i c.loop-i.at _ c.args.d.now _ z c.loop-i.invariant.3 ∙ ap (λ (k : ℕ). got (record { items = c.loop-i.items; count = k }) c.loop-i.at) z))
