@@ -50,8 +50,8 @@ module _ (t : Table) where
       go true e = b e
 
   module _ (c : Count) (e : count_says c ≡ calls.open_rows t) where
-    pub rules : (n : ℕ) → c ≡ Count.Rows n → Rules t n
-    rules n p = by_count (λ (w : Counted). counted n ≡ w → Rules t n) (λ k q. not-counted q) (λ k q. kept-rows k q) (ap count_says (sym p) ∙ e)
+    pub rules_kept : (n : ℕ) → c ≡ Count.Rows n → Rules t n
+    rules_kept n p = by_count (λ (w : Counted). counted n ≡ w → Rules t n) (λ k q. not-counted q) (λ k q. kept-rows k q) (ap count_says (sym p) ∙ e)
       where
         not-counted : {A : Type 0} {m : ℕ} → counted n ≡ uncounted m → A
         not-counted q = let z : ◌≡◌ {A = ℕ} 0 1 = cc in absurd (omega arith)
