@@ -66,6 +66,7 @@ module _ (slip : ℕ → ℕ) (i : ℕ) where
     where
       slips : (y : Held) (l : List Held) → (In y l → y.slip ≡ slip y.number) → In y (l ++ (message ∷ [])) → y.slip ≡ slip y.number
       slips y [] f (inl z) = rw z refl
+      slips y [] f (inr j) = elim j [ ]
       slips y (x ∷ l) f (inl z) = f (inl z)
       slips y (x ∷ l) f (inr j) = slips y l (λ b. f (inr b)) j
 
