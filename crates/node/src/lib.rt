@@ -4,8 +4,8 @@
 
 // ---- bytes alone
 pub use crc16::crc;
-pub use sha1_digest::{IdAnswer, Salt, Sha1, message_id};
 pub use sha1_block::Hash;
+pub use sha1_digest::{IdAnswer, Salt, Sha1, message_id};
 pub use utf8::well_formed;
 
 // ---- what a message carries
