@@ -4,7 +4,7 @@ use mathlib.Core.Path.{◌≡◌, sym, ◌∙◌}
 use mathlib.Core.Bool.{Bool, true, false, not}
 use native.Mathlib.Omega.{arith}
 use borrow.Author.Tests.{le-leb, not-true, not-false}
-use Rattle.octets.specs.Words.{◌and◌, ◌≤?◌}
+use Rattle.octets.specs.Words.{◌≤?◌}
 use Rattle.octets.proofs.Tests.{if_yes, if_no, and-next, and-not-left, below, inside}
 use Rattle.field_rules.specs.Rules.{if_set, id_in, ttl_in, fragment_in}
 

@@ -1,8 +1,7 @@
 -- Flags that come together, case by case.
 use mathlib.Core.Path.{◌≡◌, refl, sym, ◌∙◌}
 use mathlib.Core.Bool.{Bool, true, false}
-use Rattle.octets.specs.Words.{◌and◌}
-use Rattle.octets.proofs.Tests.{and_left, and_right, true-not-false}
+use Rattle.octets.proofs.Tests.{and_left, and_right}
 use Rattle.line_words.specs.Standing.{alike, all_or_none, format_rule}
 
 -- the rule of `fmt` and `clen`, as the code tests it

@@ -3,7 +3,6 @@ use mathlib.Core.Path.{sym}
 use native.Mathlib.Omega.{arith}
 use borrow.Author.Rules.{rules}
 use Rattle.octets.proofs.NumberLaws.{gather_none, gather-next, gather-room, gather-all}
-use Rattle.octets.specs.Bytes.{fits}
 use Rattle.octets.proofs.numbers.gather.Goals as goal
 
 pub loop-i-init : goal.loop-i-init

@@ -3,7 +3,6 @@ use native.Mathlib.Omega.{arith}
 use mir.Syntax.{w64}
 use mir.ValLaws.{of_z_fits, to_z_pos}
 use Rattle.octets.proofs.SignLaws.{twos-kit, low, under}
-use Rattle.octets.specs.Bytes.{fits}
 use Rattle.octets.proofs.numbers.to_bits.Goals as goal
 
 pub overflow_cast-result : goal.overflow_cast-result

@@ -8,7 +8,6 @@ use borrow.Author.Tests.{le-leb}
 use lib.ListN.{length, length-set}
 use Rattle.octets.specs.Bytes.{placed}
 use Rattle.octets.proofs.Lists.{unplaced}
-use Rattle.text.specs.Decimal.{count}
 use Rattle.text.proofs.Numerals.{length_digits, digits_last, digits-done}
 use Rattle.text.specs.Digits.{digits}
 use Rattle.text.proofs.digits.write.Goals as goal

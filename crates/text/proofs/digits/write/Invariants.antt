@@ -3,7 +3,6 @@ use Prim.Native.Nat.{◌≤◌}
 use mathlib.Core.Path.{◌≡◌}
 use lib.ListN.{length}
 use Rattle.octets.specs.Bytes.{placed}
-use Rattle.text.specs.Decimal.{count}
 use Rattle.text.specs.Digits.{digits}
 use Rattle.text.proofs.digits.write.Given as goal
 
