@@ -3,6 +3,7 @@
 use crate::command::{Command, part};
 use crate::say::{say, say_bytes};
 use crate::{forms, say};
+use std::io;
 
 pub(crate) const STORE: usize = node::STORE;
 
@@ -32,33 +33,39 @@ pub(crate) fn whole() -> Lent {
     }
 }
 
-pub(crate) fn obey(c: Command, mut lent: Lent, memory: &mut [u8], replies: &mut [u8]) -> Lent {
+pub(crate) fn obey(
+    out: &impl Print,
+    c: Command,
+    mut lent: Lent,
+    memory: &mut [u8],
+    replies: &mut [u8],
+) -> io::Result<Lent> {
     let verb = c.verb;
     match verb {
         forms::LEND => {
             lent.payload = c.z as usize;
             lent.reply = c.t as usize;
-            say(say::LENT);
+            say(out, say::LENT)?;
         }
         forms::STORE => {
             lent.store = c.t as usize;
-            say(say::LENT);
+            say(out, say::LENT)?;
         }
-        forms::FILL => fill(memory, replies, c.t),
-        forms::PEEK_PAYLOAD => peek(memory, STORE, PAYLOAD, c.z, c.t),
-        forms::PEEK_REPLY => peek(replies, 0, REPLY, c.z, c.t),
-        forms::PEEK_STORE => peek(memory, 0, STORE, c.z, c.t),
-        _ => return lent,
+        forms::FILL => fill(out, memory, replies, c.t)?,
+        forms::PEEK_PAYLOAD => peek(out, memory, STORE, PAYLOAD, c.z, c.t)?,
+        forms::PEEK_REPLY => peek(out, replies, 0, REPLY, c.z, c.t)?,
+        forms::PEEK_STORE => peek(out, memory, 0, STORE, c.z, c.t)?,
+        _ => return Ok(lent),
     }
-    lent
+    Ok(lent)
 }
 
 // Every byte of all buffers.
-fn fill(memory: &mut [u8], replies: &mut [u8], n: u32) {
+fn fill(out: &impl Print, memory: &mut [u8], replies: &mut [u8], n: u32) -> io::Result<()> {
     let b = (n % 256) as u8;
     fill_all(memory, b);
     fill_all(replies, b);
-    say(say::FILLED);
+    say(out, say::FILLED)
 }
 
 fn fill_all(s: &mut [u8], b: u8) {
@@ -71,12 +78,18 @@ fn fill_all(s: &mut [u8], b: u8) {
 
 // The `len` bytes from the place `at` on, of the buffer that is the part of a memory from `from` on with `size` bytes. The place is within the
 // buffer by the command's form: `part` would cut a place beyond it to its end.
-fn peek(memory: &[u8], from: usize, size: usize, at: u32, len: u32) {
+fn peek(
+    out: &impl Print,
+    memory: &[u8],
+    from: usize,
+    size: usize,
+    at: u32,
+    len: u32,
+) -> io::Result<()> {
     let n = len as usize;
     let bytes = part(part(memory, from, size), at as usize, n);
     if bytes.len() < n {
-        say(say::BAD_COMMAND);
-        return;
+        return say(out, say::BAD_COMMAND);
     }
-    say_bytes(say::BYTES, bytes, n);
+    say_bytes(out, say::BYTES, bytes, n)
 }

@@ -14,9 +14,11 @@ mod script;
 mod sessions;
 mod stream_calls;
 
-fn main() {
+use std::io;
+
+fn main(rt: HostRuntime) -> io::Result<()> {
     let mut line = [0u8; script::LINE];
     let mut memory = [0u8; buffers::MEMORY];
     let mut replies = [0u8; buffers::REPLY];
-    script::run(&mut line, &mut memory, &mut replies);
+    script::run(&rt, &mut line, &mut memory, &mut replies)
 }

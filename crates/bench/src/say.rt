@@ -2,7 +2,7 @@
 ghost use Rattle.std.specs.Prelude.{◌≤◌, length};
 
 use crate::command::{DIGITS, SILENT, is_byte, part, place_of};
-use libc::STDOUT_FILENO;
+use std::io;
 
 // The numbers of the words that answers are made of, in the order of the table in `say`.
 pub(crate) const BAD_COMMAND: u8 = 0;
@@ -106,7 +106,7 @@ pub(crate) const COMMA: u8 = 48;
 pub(crate) const NONE: u8 = 49;
 
 // Says a word. The table has one in each line, up to a bar, with the space that stands before or behind it.
-pub(crate) fn say(word: u8) {
+pub(crate) fn say(out: &impl Print, word: u8) -> io::Result<()> {
     let words = b"bad command|
 \n|
 refused |
@@ -158,95 +158,94 @@ swept|
 ,|
 -|
 ";
-    say_nth(words, word);
+    say_nth(out, words, word)
 }
 
 // Ends the answer to the command of that number.
-pub(crate) fn end(verb: u8) {
+pub(crate) fn end(out: &impl Print, verb: u8) -> io::Result<()> {
     if verb != SILENT {
-        say(LF);
+        say(out, LF)?;
     }
+    Ok(())
 }
 
 // Says the word of that number, of words that end at a bar and an LF.
-fn say_nth(words: &[u8], n: u8) {
+fn say_nth(out: &impl Print, words: &[u8], n: u8) -> io::Result<()> {
     let mut left = n;
     let mut at: usize = 0;
     while at < words.len() {
         let end = place_of(words, at, b'|');
         if left == 0 {
-            io::write_all(STDOUT_FILENO, &words[at..end]);
-            return;
+            return out.write_all(&words[at..end]);
         }
         left -= 1;
         at = end + 2;
     }
+    Ok(())
 }
 
-pub(crate) fn refused(number: u8) {
-    say_number(REFUSED, number as u32);
+pub(crate) fn refused(out: &impl Print, number: u8) -> io::Result<()> {
+    say_number(out, REFUSED, number as u32)
 }
 
 // A decimal behind its word.
-pub(crate) fn say_number(word: u8, n: u32) {
-    say(word);
-    io::print_decimal(STDOUT_FILENO, n as u64);
+pub(crate) fn say_number(out: &impl Print, word: u8, n: u32) -> io::Result<()> {
+    say(out, word)?;
+    out.print(n)
 }
 
 // A length behind its word.
-pub(crate) fn say_size(word: u8, n: usize) {
-    say(word);
-    io::print_decimal(STDOUT_FILENO, n as u64);
+pub(crate) fn say_size(out: &impl Print, word: u8, n: usize) -> io::Result<()> {
+    say(out, word)?;
+    out.print(n)
 }
 
 // An id behind its word.
-pub(crate) fn say_id(word: u8, id: u32) {
-    say(word);
-    io::print_hex(STDOUT_FILENO, id as u64, 7);
+pub(crate) fn say_id(out: &impl Print, word: u8, id: u32) -> io::Result<()> {
+    say(out, word)?;
+    print!(out; "{id:07x}")
 }
 
 // A salt, where there is one.
-pub(crate) fn say_salt(given: bool, v: i64) {
+pub(crate) fn say_salt(out: &impl Print, given: bool, v: i64) -> io::Result<()> {
     if !given {
-        return;
+        return Ok(());
     }
-    say(SALT);
+    say(out, SALT)?;
     let mut digits = [0u8; 20];
     text::write_signed(v, &mut digits, 0);
-    io::write_all(STDOUT_FILENO, part(&digits, 0, text::signed_size(v)));
+    out.write_all(part(&digits, 0, text::signed_size(v)))
 }
 
 // The first `n` of some bytes behind their word, as a script writes them: `-` for none; a byte `-` or `~` alone would be taken for none or
 // absent, so it is escaped.
-pub(crate) fn say_bytes(word: u8, s: &[u8], n: usize) {
-    say(word);
+pub(crate) fn say_bytes(out: &impl Print, word: u8, s: &[u8], n: usize) -> io::Result<()> {
+    say(out, word)?;
     let front = part(s, 0, n);
     if front.len() == 0 {
-        say(NONE);
-        return;
+        return say(out, NONE);
     }
     if is_byte(front, b'-') {
-        escape(b'-');
-        return;
+        return escape(out, b'-');
     }
     if is_byte(front, b'~') {
-        escape(b'~');
-        return;
+        return escape(out, b'~');
     }
-    spell(front);
+    spell(out, front)
 }
 
 // Bytes from 0x21 to 0x7E but `%` as they are, any other as `%XX`.
-fn spell(s: &[u8]) {
+fn spell(out: &impl Print, s: &[u8]) -> io::Result<()> {
     let mut at: usize = 0;
     while at < s.len() {
         let end = plain_end(s, at);
-        io::write_all(STDOUT_FILENO, &s[at..end]);
+        out.write_all(&s[at..end])?;
         if end < s.len() {
-            escape(s[end]);
+            escape(out, s[end])?;
         }
         at = end + 1;
     }
+    Ok(())
 }
 
 // Where the bytes that stand for themselves end.
@@ -276,10 +275,10 @@ pub(crate) fn is_plain(b: u8) -> bool {
 }
 
 // `%XX`, in capitals.
-fn escape(b: u8) {
+fn escape(out: &impl Print, b: u8) -> io::Result<()> {
     let digits = DIGITS;
     let high = (b / 16) as usize;
     let low = (b % 16) as usize;
     let escaped = [b'%', digits[high], digits[low]];
-    io::write_all(STDOUT_FILENO, &escaped);
+    out.write_all(&escaped)
 }

@@ -2,38 +2,44 @@
 use crate::buffers::{MEMORY, REPLY};
 use crate::command::part;
 use crate::{buffers, forms, fragment_calls, messages, say, sessions, stream_calls};
-use libc::STDIN_FILENO;
 use node::{Groups, Table};
+use std::io;
+use std::io::Read;
 
 // The room for a line: its longest and one byte more, by which a line that is too long is known.
 pub(crate) const LINE: usize = forms::LONGEST_LINE + 1;
 
 // Answers a whole script. Each area is handed each command with what the area keeps from one to the next; only the one that the command
 // belongs to changes anything, and says its answer.
-// Nothing says that the input ends, and a proved loop has to; so it counts its turns down, from a number that no run uses up.
-pub(crate) fn run(line: &mut [u8; LINE], memory: &mut [u8; MEMORY], replies: &mut [u8; REPLY]) {
-    let mut turns = u64::MAX;
+// Nothing says that the input ends, and a proved loop has to; so it counts its turns, up to a number that no run comes to.
+pub(crate) fn run(
+    rt: &(impl Input + Print),
+    line: &mut [u8; LINE],
+    memory: &mut [u8; MEMORY],
+    replies: &mut [u8; REPLY],
+) -> io::Result<()> {
+    let mut input = rt.reader();
     let mut session = sessions::none();
     let mut table = Table::new();
     let mut groups = Groups::new();
     let mut lent = buffers::whole();
-    while turns > 0 {
-        let got = read_line(line);
+    for _ in 0..u64::MAX {
+        let got = read_line(&mut input, line)?;
         let c = forms::parse(line, got.len);
         let decoded: &[u8] = line;
         let a = part(decoded, c.a_at, c.a_len);
         let b = part(decoded, c.b_at, c.b_len);
-        session = sessions::obey(c, b, session, lent, memory, replies);
-        table = stream_calls::obey(c, a, b, table);
-        groups = fragment_calls::obey(c, a, b, groups, lent.store, memory);
-        lent = buffers::obey(c, lent, memory, replies);
-        messages::obey(c, b);
-        say::end(c.verb);
+        session = sessions::obey(rt, c, b, session, lent, memory, replies)?;
+        table = stream_calls::obey(rt, c, a, b, table)?;
+        groups = fragment_calls::obey(rt, c, a, b, groups, lent.store, memory)?;
+        lent = buffers::obey(rt, c, lent, memory, replies)?;
+        messages::obey(rt, c, b)?;
+        say::end(rt, c.verb)?;
         if got.ended {
-            return;
+            break;
         }
-        turns -= 1;
     }
+    Ok(())
 }
 
 // A line's length in its buffer, and whether the input ended with it.
@@ -43,23 +49,17 @@ struct Got {
     ended: bool,
 }
 
-// Reads a line up to its LF or the input's end, by a loop that counts its turns down as `run` does: a byte at a time, so that none behind
-// the line is taken before the line is answered.
-fn read_line(line: &mut [u8; LINE]) -> Got {
-    let mut turns = u64::MAX;
+// Reads a line up to its LF or the input's end: a byte at a time, so that none behind the line is taken before the line is answered.
+fn read_line(input: &mut impl Read, line: &mut [u8; LINE]) -> io::Result<Got> {
     let mut len: usize = 0;
-    while turns > 0 {
-        let mut byte = [0u8; 1];
-        if libc::read(STDIN_FILENO, &mut byte) < 1 {
-            break;
+    for read in input.by_ref().bytes() {
+        let byte = read?;
+        if byte == b'\n' {
+            return Ok(Got { len, ended: false });
         }
-        if byte[0] == b'\n' {
-            return Got { len, ended: false };
-        }
-        len = keep(line, len, byte[0]);
-        turns -= 1;
+        len = keep(line, len, byte);
     }
-    Got { len, ended: true }
+    Ok(Got { len, ended: true })
 }
 
 // A line's length with one byte more; past its room no byte is kept.
