@@ -12,6 +12,7 @@ pub fn id_rule(id: u32) -> bool
     id < 268435456
 }
 
+#[tactic(auto, unfolding(crate::specs::Rules::ttl_in))]
 pub fn ttl_rule(has: bool, ttl: u32) -> bool
     ensures { result ≡ if_set has (ttl_in ttl) }
 {
@@ -24,6 +25,7 @@ pub fn ttl_rule(has: bool, ttl: u32) -> bool
     ttl <= 2147483647
 }
 
+#[tactic(auto, unfolding(crate::specs::Rules::fragment_in))]
 pub fn fragment_rule(has: bool, mid: u32, index: u16, total: u16) -> bool
     ensures { result ≡ if_set has (fragment_in mid index total) }
 {

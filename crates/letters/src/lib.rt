@@ -7,6 +7,7 @@ ghost use Rattle.octets.specs.Bytes.{same};
 ghost use Rattle.letters.specs.Letters.{upper, folded};
 
 // The byte, with a to z become A to Z.
+#[tactic(auto, unfolding(crate::specs::Letters::upper))]
 fn upper(x: u8) -> u8
     ensures { result ≡ upper x }
 {

@@ -8,6 +8,7 @@ ghost use Rattle.line_frame.specs.Frame.{plain, is_text, line_head, rest_of};
 use line_values::Master;
 
 // Whether no byte is below 0x20 and none is 0x7F.
+#[tactic(auto, using(crate::proofs::Plain::plain_low, crate::proofs::Plain::plain_del, crate::proofs::Plain::plain_next, crate::proofs::Plain::plain_end))]
 fn is_plain(s: &[u8]) -> bool
     ensures { result ≡ every plain s.now }
 {
@@ -25,6 +26,7 @@ fn is_plain(s: &[u8]) -> bool
 }
 
 // Whether these may be the bytes of a line.
+#[tactic(auto, unfolding(crate::specs::Frame::is_text))]
 fn is_text(s: &[u8]) -> bool
     ensures { result ≡ is_text s.now }
 {
