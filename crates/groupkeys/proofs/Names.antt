@@ -7,7 +7,6 @@ use mathlib.Core.List.{List}
 use lib.ListN.{length, drop, replicate, length-append, length-drop, length-replicate}
 use lib.Seq.{take-append_seam, drop-append_seam}
 use borrow.Author.Tests.{eq-eqb, le-leb}
-use Rattle.octets.specs.Words.{◌and◌}
 use Rattle.octets.specs.Bytes.{all_zero, front, placed}
 use Rattle.octets.proofs.Tests.{and_both}
 use Rattle.octets.proofs.Lists.{placed-in}

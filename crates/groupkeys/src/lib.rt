@@ -46,6 +46,7 @@ pub fn name(has_originator: bool, originator: &[u8], master: u32) -> Named
 }
 
 // Whether two keys are equal.
+#[tactic(auto, unfolding(crate::specs::Key::same_key))]
 pub fn same(a: Key, b: Key) -> bool
     ensures { result ≡ same_key a b }
 {

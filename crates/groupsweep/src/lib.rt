@@ -17,6 +17,7 @@ fn age(time: u32, began: u32) -> u32
 }
 
 // The group, or a free one in its place where it is incomplete and old.
+#[tactic(auto, unfolding(crate::specs::Sweep::swept_group))]
 fn swept(x: Group, time: u32) -> Group
     ensures { result ≡ swept_group time x }
 {

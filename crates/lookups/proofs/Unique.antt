@@ -1,5 +1,5 @@
 -- Every public function leaves one outcome and asks nothing.
-use mathlib.Core.Path.{◌≡◌, refl, sym, ◌∙◌}
+use mathlib.Core.Path.{refl, sym, ◌∙◌}
 use Rattle.octets.specs.Unique.{One, Free}
 use Rattle.lookups.proofs.known.Kinds as known-kinds
 use Rattle.lookups.proofs.known.Reads as known-reads

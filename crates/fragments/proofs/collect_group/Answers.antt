@@ -14,7 +14,7 @@ pub bounds-groups-g : goal.bounds-groups-g
 bounds-groups-g c = let k = (taken _ _ _ _ _ _ _ c.collect-s.ensures (ap saying c.in-Collected.is)).bound in omega arith
 
 pub join-requires : goal.join-requires
-join-requires c = let k = taken _ _ _ _ _ _ _ c.collect-s.ensures (ap saying c.in-Collected.is) in (k.bound, k.sized, k.pieces, k.fits)
+join-requires c = let k = taken _ _ _ _ _ _ _ c.collect-s.ensures (ap saying c.in-Collected.is) in (omega (arith, k.bound), k.sized, k.pieces, k.fits)
 
 pub returns-in-Collected : goal.returns-in-Collected
 returns-in-Collected c = (c.collect-s.ensures, c.join.ensures ∙ ap (λ (a : Answer). out_after (saying a) c.args.groups c.args.store.now c.args.out.now) (sym c.in-Collected.is))
