@@ -1,7 +1,5 @@
 -- Every public function leaves one outcome and asks nothing; of a part, what is seen of it.
-use Prim.Native.Nat.{ℕ}
 use mathlib.Core.Path.{◌≡◌, refl, ap, sym, ◌∙◌}
-use native.Mathlib.Omega.{arith}
 use Rattle.octets.specs.Unique.{One, OneSeen, Free}
 use Rattle.datagram.specs.Answer.{Verdict, readable, refused_with, verdict, Said, says}
 use Rattle.datagram.specs.declared.DatagramReading.{DatagramReading}

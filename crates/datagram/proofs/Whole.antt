@@ -42,6 +42,9 @@ unfolding read_of
 other-version [] h e = refl
 other-version (x ∷ d) h e = rw (ne_eqb x 7 e)
 
+pub not_version : (d : List ℕ) → 1 ≤ length d → (get_or d 0 0 ≡ 7 → ⊥) → read_of d ≡ refused 6
+not_version d h e = sym (other-version d h e)
+
 version-7 : (d : List ℕ) → 1 ≤ length d → get_or d 0 0 ≡ 7 → read_of d ≡ after_fields d (message.parse (drop 1 d))
 unfolding read_of
 version-7 [] h e = absurd (omega arith)

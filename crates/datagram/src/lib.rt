@@ -39,6 +39,7 @@ fn refuse(number: u8) -> DatagramAnswer
 }
 
 // Reads a whole datagram.
+#[tactic(auto, using(crate::proofs::Whole::not_version))]
 pub fn read_datagram(d: &[u8]) -> DatagramAnswer
     ensures { says result ≡ read_of d.now }
 {

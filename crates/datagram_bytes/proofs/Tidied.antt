@@ -1,21 +1,21 @@
 -- What reading back clears is what the message's own rule of tidiness clears.
-use Prim.Native.Nat.{ℕ, ◌≤◌}
-use mathlib.Core.Path.{◌≡◌, refl, ap, sym, ◌∙◌}
+use Prim.Native.Nat.{ℕ}
+use mathlib.Core.Path.{◌≡◌, refl, ap, ◌∙◌}
 use mathlib.Core.Bool.{Bool, true, false}
-use mathlib.Core.List.{List, [], map}
+use mathlib.Core.List.{[], map}
 use native.Mathlib.Omega.{arith}
 use borrow.Author.Tests.{leb-true, leb-false}
-use lib.ListN.{length, take, length-take, length-map}
+use lib.ListN.{length, length-take, length-map}
 use lib.IntN.{ℤ, pos}
 use Rattle.octets.proofs.SignLaws.{twos_back}
-use Rattle.octets.specs.Words.{if◌then◌else◌, ◌and◌, ◌≤?◌}
+use Rattle.octets.specs.Words.{if◌then◌else◌, ◌≤?◌}
 use Rattle.octets.specs.Field.{Field, num, when, signed_num}
 use Rattle.octets.proofs.Tests.{and_left, and_right}
 use Rattle.headers.specs.declared.Headers.{Headers}
 use Rattle.envelope.specs.declared.CallText.{CallText}
 use Rattle.envelope.specs.declared.AddressText.{AddressText}
 use Rattle.envelope.specs.declared.StreamText.{StreamText}
-use Rattle.envelope.specs.Texts.{call_text, address_text, stream_text, no_headers}
+use Rattle.envelope.specs.Texts.{call_text, address_text, stream_text}
 use Rattle.envelope.specs.Rules.{call_bytes, address_bytes, stream_bytes}
 use Rattle.envelope.specs.Tidy.{behind, tidy_header, tidy_headers, tidy}
 use Rattle.layout.specs.declared.Hops.{Hops}
@@ -23,7 +23,7 @@ use Rattle.layout.specs.declared.Flags.{Flags}
 use Rattle.layout.specs.declared.Datagram.{Datagram}
 use Rattle.layout.specs.Texts.{no_hops}
 use Rattle.layout.specs.Tidy.{tidy_hops, tidy_datagram}
-use Rattle.layout.specs.Layout.{text, call, address, stream_name, hex_id, hops, header, headers_of, headers, flags, salt_if, ttl_if, call_if, flood_if, hops_if, fragment, fragment_if, stream, stream_if, headers_if, opening, ends, way, options, message_of, message_flags, opening_of, ends_of, way_of, layout, message}
+use Rattle.layout.specs.Layout.{text, call, address, stream_name, hex_id, hops, header, headers_of, headers, flags, salt_if, call_if, flood_if, hops_if, fragment_if, stream_if, headers_if, opening, ends, way, options, message_of, message_flags, opening_of, ends_of, way_of, layout, message}
 use Rattle.layout.proofs.Valid.{id-tidy, layout-tidy}
 use Rattle.datagram_bytes.specs.Bytes.{Typed}
 

@@ -1,23 +1,21 @@
 -- The head: the groups that it is made of, and that it has at most 2,109 bytes.
-use Prim.Native.Nat.{ℕ, ◌+◌, ◌-◌, ◌≤◌, ◌<◌}
+use Prim.Native.Nat.{ℕ, ◌+◌, ◌≤◌}
 use mathlib.Core.Path.{◌≡◌, sym, ap, ◌∙◌}
 use mathlib.Core.Bool.{true, false}
 use mathlib.Core.List.{List, [], ◌++◌}
 use native.Mathlib.Omega.{arith}
-use borrow.Author.Tests.{lt-ltb, le-ltb}
-use lib.ListN.{length, take, drop, length-append}
-use lib.Seq.{take-append_seam}
+use lib.ListN.{length, length-append}
 use lib.IntN.{ℤ}
 use Rattle.octets.specs.Bytes.{front, placed}
 use Rattle.octets.specs.Field.{num}
-use Rattle.octets.proofs.Tests.{if_yes, if_no, no_true, no_false}
-use Rattle.octets.proofs.Lists.{placed-in, placed-append}
+use Rattle.octets.proofs.Tests.{if_yes, if_no}
+use Rattle.octets.proofs.Lists.{placed-in}
 use Rattle.octets.proofs.NumberLaws.{length-bytes}
 use Rattle.layout.specs.declared.Flags.{Flags}
 use Rattle.layout.specs.declared.Datagram.{Datagram}
 use Rattle.layout.specs.Rules.{valid}
 use Rattle.layout.specs.Layout.{opening, ends, way, options, message_flags, ends_of, way_of, options_of, layout}
-use Rattle.datagram_bytes.specs.Bytes.{bytes_of, payload_place, Typed}
+use Rattle.datagram_bytes.specs.Bytes.{payload_place, Typed}
 use Rattle.datagram_bytes.proofs.Good.{layout-good}
 use Rattle.datagram_bytes.proofs.Sizes.{fields-size}
 use Rattle.datagram_head.specs.Head.{head_bytes, valid_head}

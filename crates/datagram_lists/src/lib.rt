@@ -65,6 +65,7 @@ pub fn read_way(d: &[u8], flags: Flags) -> WayFound
 }
 
 // The headers, where the flag is set: 1 to 8 of them.
+#[tactic(auto, using(crate::proofs::Few::headers_few))]
 pub fn read_headers(d: &[u8], has: bool) -> HeadersFound
     ensures { result ≡ headers_found ((headers_if has).parse d.now) }
 {

@@ -1,21 +1,17 @@
 -- What was found, from what the code tested: numbers, fields behind a flag, and answers that are equations.
-use Prim.Native.Nat.{ℕ, ◌+◌, ◌-◌, ◌≤◌, ◌<◌}
+use Prim.Native.Nat.{ℕ}
 use mathlib.Core.Path.{◌≡◌, refl, ap, ◌∙◌}
 use mathlib.Core.Bool.{Bool, true, false}
-use mathlib.Core.List.{List, [], ◌∷◌}
+use mathlib.Core.List.{List}
 use native.Mathlib.Omega.{arith}
-use lib.ListN.{length, take, drop, length-drop}
-use lib.Seq.{take_all}
 use lib.IntN.{ℤ}
-use borrow.Author.Tests.{le-leb, lt-leb}
-use Rattle.octets.specs.Words.{every}
-use Rattle.octets.specs.Field.{Res, bad, got, bind, Field, num, when}
+use Rattle.octets.specs.Field.{Res, bad, got, bind, Field, when}
 use Rattle.octets.specs.Reading.{read8, read16, read32, read_signed}
 use Rattle.octets.specs.declared.Read8.{Read8}
 use Rattle.octets.specs.declared.Read16.{Read16}
 use Rattle.octets.specs.declared.Read32.{Read32}
 use Rattle.octets.specs.declared.ReadSigned.{ReadSigned}
-use Rattle.octets.proofs.FieldLaws.{Laws, num_laws}
+use Rattle.octets.proofs.FieldLaws.{Laws}
 use Rattle.datagram_numbers.specs.Found.{found, finding}
 
 -- ---- an answer, said another way

@@ -3,7 +3,7 @@ use Prim.Native.Nat.{ℕ}
 use mathlib.Core.Path.{◌≡◌, refl, ap}
 use mathlib.Core.Bool.{Bool, true, false}
 use mathlib.Core.List.{List}
-use Rattle.octets.specs.Field.{Res, got, Field, when}
+use Rattle.octets.specs.Field.{got, Field, when}
 use Rattle.layout.specs.Layout.{Opening}
 use Rattle.datagram_numbers.specs.Found.{found8, found32, opening_found, fragment_found}
 use Rattle.datagram_numbers.specs.declared.Found8.{Found8}

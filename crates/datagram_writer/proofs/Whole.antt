@@ -9,7 +9,7 @@ use lib.ListN.{length, take, drop, length-append}
 use lib.Seq.{take-append_seam}
 use Rattle.octets.specs.Bytes.{front, placed}
 use Rattle.octets.specs.Field.{num}
-use Rattle.octets.proofs.Tests.{if_yes, if_no, no_true, no_false, true-not-false}
+use Rattle.octets.proofs.Tests.{if_yes, if_no, no_true, no_false}
 use Rattle.octets.proofs.Lists.{placed-in, placed-append}
 use Rattle.layout.specs.declared.Datagram.{Datagram}
 use Rattle.layout.specs.Rules.{valid}
@@ -17,7 +17,7 @@ use Rattle.layout.specs.Layout.{layout}
 use Rattle.datagram_bytes.specs.Bytes.{bytes_of}
 use Rattle.datagram_head.specs.Head.{head_bytes}
 use Rattle.datagram_head.specs.Head as head
-use Rattle.datagram_writer.specs.Answer.{Verdict, written, refused_with, write_of, write_left}
+use Rattle.datagram_writer.specs.Answer.{written, refused_with, write_of, write_left}
 
 -- the payload behind the head
 pub head-payload : (m : Datagram) (p : List ℕ) → head_bytes m (length p) ++ p ≡ bytes_of m p

@@ -35,12 +35,12 @@ use Rattle.talk.specs.declared.Session.{Session}
 use Rattle.talk.specs.Answer.{Happening}
 use Rattle.talk.specs.Answer as what
 use Rattle.talk.specs.Sessions.{keeps_terms, salted, line_so_far, listening}
-use Rattle.talk.specs.Talk.{Turn, nothing, message, offered, completed, heard_as, heard, data_heard}
+use Rattle.talk.specs.Talk.{Turn, nothing, offered, completed, heard_as, heard, data_heard}
 use Rattle.session.specs.Feed.{obeyed, feed}
 use Rattle.session_rules.specs.Rules.{keeps_session, step_refusal}
 use Rattle.session.specs.Answer as answer
-use Rattle.session.specs.Calls.{Outcome, refused, made, stored, went, step_of}
-use Rattle.session.proofs.Runs.{received, run-payload, run-whole}
+use Rattle.session.specs.Calls.{Outcome, refused, stored, went, step_of}
+use Rattle.session.proofs.Runs.{run-payload, run-whole}
 use Rattle.session_rules.proofs.Tests.{Kept, kept, terms-bound, payload-bound, mode-low, long-enough, Passed, passed}
 use Rattle.exchange.specs.Host.{Lent, call, Between, at_first, after_as, after, after_all}
 use Rattle.exchange.proofs.Keeps.{on, listening-keeps, step_keeps}

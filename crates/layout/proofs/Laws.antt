@@ -9,7 +9,7 @@ use lib.Seq.{take-append_seam}
 use lib.IntN.{pos}
 use borrow.Author.Tests.{le-leb, lt-ltb, leb-true, ltb-true, eqb-true, eq-eqb, ne_eqb}
 use Rattle.octets.specs.Words.{◌and◌, ◌<?◌, ◌≤?◌, ◌=?◌, between}
-use Rattle.octets.specs.Field.{Field, num, raw, only, seq, through, many, signed_num}
+use Rattle.octets.specs.Field.{Field, num, raw, only, seq, many, signed_num}
 use Rattle.octets.proofs.Tests.{if_yes, and_left, and_right, and_both, inside-high}
 use Rattle.octets.proofs.FieldLaws.{Laws, num_laws, raw_laws, only-laws, when-laws, seq-laws, tagged-laws, through-laws, many-laws, signed-laws}
 use Rattle.text.specs.Digits.{is_digit}

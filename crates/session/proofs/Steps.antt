@@ -1,5 +1,5 @@
 -- What the code takes in and says is what feeding the piece comes to.
-use mathlib.Core.Path.{◌≡◌, sym, ap, ◌∙◌, subst}
+use mathlib.Core.Path.{◌≡◌, sym, ap, ◌∙◌}
 use Prim.Native.Nat.{ℕ, ◌+◌, ◌-◌, ◌≤◌, ◌<◌}
 use native.Mathlib.Omega.{arith}
 use native.Mathlib.Decide.{dec_le}
@@ -82,14 +82,13 @@ module _ (s : Session) (piece part line : List ℕ) (m : s.mode ≤ 1) (long : l
         ∙ ap (λ (w : List ℕ). out_of (length part + 1) (line_turn s.mode s.terms w)) (sym t)
 
 -- a line that is whole leads to what the mode says
-module _ (mode : ℕ) (t : Terms) (text reply after : List ℕ) (x : Telling) where
-  pub line_first : mode ≡ 0 → (x ≡ told_in (heard text) reply) × (after ≡ placed (heard text).reply 0 reply) → (x ≡ told_in (line_turn mode t text) reply) × (after ≡ placed (line_turn mode t text).reply 0 reply)
-  unfolding line_turn
-  line_first z k = subst (λ (y : Turn). (x ≡ told_in y reply) × (after ≡ placed y.reply 0 reply)) (sym (if_yes _ _ _ (eq-eqb mode 0 z))) k
+pub first_turn : (mode : ℕ) (t : Terms) (text : List ℕ) → mode ≡ 0 → line_turn mode t text ≡ heard text
+unfolding line_turn
+first_turn mode t text z = if_yes _ _ _ (eq-eqb mode 0 z)
 
-  pub line-data : (mode ≡ 0 → ⊥) → (x ≡ told_in (data_heard t text) reply) × (after ≡ placed (data_heard t text).reply 0 reply) → (x ≡ told_in (line_turn mode t text) reply) × (after ≡ placed (line_turn mode t text).reply 0 reply)
-  unfolding line_turn
-  line-data z k = subst (λ (y : Turn). (x ≡ told_in y reply) × (after ≡ placed y.reply 0 reply)) (sym (if_no _ _ _ (ne_eqb mode 0 z))) k
+pub data_turn : (mode : ℕ) (t : Terms) (text : List ℕ) → (mode ≡ 0 → ⊥) → line_turn mode t text ≡ data_heard t text
+unfolding line_turn
+data_turn mode t text z = if_no _ _ _ (ne_eqb mode 0 z)
 
 -- a 513th byte
 pub line-long : (s : Session) (piece part : List ℕ) → s.mode ≤ 1 → s.line_len ≤ 512 → part ≡ before 10 piece → 512 - s.line_len < length part

@@ -6,7 +6,7 @@ use mathlib.Core.Bool.{true, false}
 use mathlib.Core.List.{List, []}
 use lib.ListN.{length, take}
 use borrow.Author.Tests.{eq-eqb, ne_eqb, lt-ltb, le-ltb}
-use Rattle.octets.specs.Words.{if◌then◌else◌, ◌or◌, ◌<?◌, ◌=?◌}
+use Rattle.octets.specs.Words.{◌or◌, ◌<?◌}
 use Rattle.octets.specs.Bytes.{front, placed}
 use Rattle.octets.proofs.Tests.{if_yes, if_no}
 use Rattle.refusals.specs.Numbers.{buffer_too_short, longest_payload}
@@ -19,7 +19,7 @@ use Rattle.session.specs.Answer as answer
 use Rattle.session.specs.Feed.{feed}
 use Rattle.session_rules.specs.Rules.{keeps_session, longest_reply, step_refusal}
 use Rattle.session_rules.proofs.Tests.{long-enough, number-none, Passed}
-use Rattle.session.specs.Calls.{Outcome, refused, made, stored, went, step_of, open_of, open_reply}
+use Rattle.session.specs.Calls.{Outcome, refused, stored, went, step_of, open_of, open_reply}
 use Rattle.session.specs.Runs.{Spoken}
 use Rattle.session.proofs.Replies.{at_front, run_short}
 

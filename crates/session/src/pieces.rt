@@ -64,6 +64,7 @@ fn told(used: usize, said: Said) -> Step
 }
 
 // A line that is whole: between messages, or after `send`.
+#[tactic(auto, using(crate::proofs::Steps::first_turn, crate::proofs::Steps::data_turn))]
 fn hear(mode: u8, terms: Terms, text: &[u8], reply: &mut [u8]) -> Said
     ensures { (talk.says result ≡ told_in (line_turn mode terms text.now) reply.old) × (reply.new ≡ placed (line_turn mode terms text.now).reply 0 reply.old) }
 {

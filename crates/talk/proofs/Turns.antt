@@ -5,8 +5,11 @@ use mathlib.Core.Bool.{true, false}
 use mathlib.Core.List.{List, []}
 use lib.ListN.{replicate}
 use lib.IntN.{ℤ}
+use mir.Syntax.{w64}
+use mir.Val.{SFits, to_z, of_z}
+use mir.ValLaws.{to_z-of_z}
 use borrow.Author.Tests.{eq-eqb, ne_eqb}
-use Rattle.octets.specs.Words.{if◌then◌else◌, ◌and◌, ◌≤?◌, ◌=?◌}
+use Rattle.octets.specs.Words.{◌≤?◌}
 use Rattle.octets.specs.Bytes.{placed}
 use Rattle.octets.proofs.Tests.{if_yes, if_no, and_both, and-next, and-not-left, and-not-right}
 use Rattle.refusals.specs.Numbers.{longest_payload}
@@ -91,6 +94,11 @@ module _ (t : Terms) (s : List ℕ) where
 -- the salt's digest, where the salt's value came through a call
 pub salted-by : (t : Terms) (z : ℤ) (r : Sha1) → z ≡ t.salt → r ≡ fed_all fresh (salt_bytes (record { given = t.has_salt; value = z })) → r ≡ salted t
 salted-by t z r e q = q ∙ ap (λ (v : ℤ). fed_all fresh (salt_bytes (record { given = t.has_salt; value = v }))) e
+
+-- no payload comes: the message is whole, where the salt's value came through a call
+pub whole_none : (t : Terms) (s : List ℕ) (r : Sha1) → r ≡ fed_all fresh (salt_bytes (record { given = t.has_salt; value = to_z w64 (of_z w64 t.salt) })) → SFits w64 t.salt
+    → keeps_terms t ≡ true → is_data t.id s ≡ true → t.len ≡ 0 → data_heard t s ≡ completed t r
+whole_none t s r e f k d z = data-none t s r (salted-by t _ r (to_z-of_z w64 t.salt f) e) k d z
 
 -- a mode as it is entered, from its parts
 pub entered-is : (mode : ℕ) (t u : Terms) (g h : Sha1) (x : Session) → t ≡ u → g ≡ h → x ≡ record { mode = mode; line_len = 0; line = replicate 512 0; terms = t; got = 0; hash = g }

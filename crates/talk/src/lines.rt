@@ -83,6 +83,7 @@ fn hear_offer(s: &[u8]) -> Due
 }
 
 // The line after `send`.
+#[tactic(auto, using(crate::proofs::Turns::whole_none))]
 pub(crate) fn hear_data(terms: Terms, s: &[u8]) -> Due
     ensures { turn_in s.now result ≡ data_heard terms s.now }
 {

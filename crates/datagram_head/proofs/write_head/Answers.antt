@@ -2,7 +2,6 @@
 use mathlib.Core.Path.{sym, ◌∙◌}
 use native.Mathlib.Omega.{arith}
 use borrow.Author.Rules.{rules}
-use Rattle.layout.specs.Layout.{headers}
 use Rattle.datagram_bytes.specs.Bytes.{Typed}
 use Rattle.datagram_head.proofs.Whole.{head-size, unwritten, head-written}
 use Rattle.datagram_head.proofs.write_head.Goals as goal

@@ -2,7 +2,7 @@
 use mathlib.Core.Bool.{false}
 use mathlib.Core.Path.{refl, ap, sym, ◌∙◌}
 use native.Mathlib.Omega.{arith}
-use Rattle.octets.proofs.Tests.{below, above, inside}
+use Rattle.octets.proofs.Tests.{above, inside}
 use Rattle.octets.specs.Words.{◌≤?◌, between}
 use Rattle.octets.specs.Field.{num}
 use Rattle.octets.proofs.FieldLaws.{num_laws}
@@ -21,10 +21,6 @@ pub returns-in_default : goal.returns-in_default
 unfolding headers
 returns-in_default c = c.no_headers-in_default.ensures ∙ sym (ap headers_found (flag-yes c.args.has no_headers headers c.args.d.now c.if-not-has.false ∙ not_found _ c.args.d.now false no_headers 0 (counted-short header with_header no_headers header_array headers_of (λ h. h.count ≤? 8) (between 1 8) 2 c.args.d.now no_headers (short16 _ c.read_u16-c.result c.read_u16-c.ensures c.in_default.is)) refl))
 
-pub returns-then-v-lt1 : goal.returns-then-v-lt1
-unfolding headers
-returns-then-v-lt1 c = c.no_headers-then-v-lt1.ensures ∙ sym (ap headers_found (flag-yes c.args.has no_headers headers c.args.d.now c.if-not-has.false ∙ not_found _ c.args.d.now false no_headers 0 (counted-not header with_header no_headers header_array headers_of (λ h. h.count ≤? 8) (between 1 8) 2 c.args.d.now c.in-Got.v c.in-Got.n (got16 ((num 2).parse c.args.d.now) c.read_u16-c.result _ _ c.read_u16-c.ensures c.in-Got.is) no_headers (below 1 8 c.in-Got.v c.if-v-lt1.true)) refl))
-
 pub returns-then-v-gt8 : goal.returns-then-v-gt8
 unfolding headers
 returns-then-v-gt8 c = c.no_headers-then-v-gt8.ensures ∙ sym (ap headers_found (flag-yes c.args.has no_headers headers c.args.d.now c.if-not-has.false ∙ not_found _ c.args.d.now false no_headers 0 (counted-not header with_header no_headers header_array headers_of (λ h. h.count ≤? 8) (between 1 8) 2 c.args.d.now c.in-Got.v c.in-Got.n (got16 ((num 2).parse c.args.d.now) c.read_u16-c.result _ _ c.read_u16-c.ensures c.in-Got.is) no_headers (above 1 8 c.in-Got.v c.if-v-gt8.true)) refl))
@@ -34,4 +30,4 @@ read_items-requires c = ((num_laws 2).room c.args.d.now c.in-Got.v c.in-Got.n (g
 
 pub returns : goal.returns
 unfolding headers
-returns c = c.read_items.ensures ∙ sym (ap headers_found (flag-yes c.args.has no_headers headers c.args.d.now c.if-not-has.false ∙ counted_is header with_header no_headers header_array headers_of (λ h. h.count ≤? 8) (between 1 8) 2 c.args.d.now c.in-Got.v c.in-Got.n (got16 ((num 2).parse c.args.d.now) c.read_u16-c.result _ _ c.read_u16-c.ensures c.in-Got.is) (inside 1 8 c.in-Got.v c.if-v-lt1.false c.if-v-gt8.false) (λ l q. all-headers l (omega (arith, q, c.if-v-gt8.false)))))
+returns c = c.read_items.ensures ∙ sym (ap headers_found (flag-yes c.args.has no_headers headers c.args.d.now c.if-not-has.false ∙ counted_is header with_header no_headers header_array headers_of (λ h. h.count ≤? 8) (between 1 8) 2 c.args.d.now c.in-Got.v c.in-Got.n (got16 ((num 2).parse c.args.d.now) c.read_u16-c.result _ _ c.read_u16-c.ensures c.in-Got.is) (inside 1 8 c.in-Got.v (omega arith) (omega arith)) (λ l q. all-headers l (omega (arith, q, c.if-v-gt8.false)))))

@@ -1,7 +1,7 @@
 -- What the three fields come to, each from the part behind the last, and blanks where one is not there.
 use mathlib.Core.Path.{ap, sym}
 use native.Mathlib.Omega.{arith}
-use Rattle.layout.specs.Layout.{hops, hops_if, flood_if, way}
+use Rattle.layout.specs.Layout.{hops_if, flood_if, way}
 use Rattle.layout.proofs.Laws.{flood_if-laws}
 use Rattle.datagram_numbers.proofs.Answers.{said, not_found, is_found}
 use Rattle.datagram_numbers.proofs.Chains.{tail, tail-length, three-joined}

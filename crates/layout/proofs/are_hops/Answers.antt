@@ -3,7 +3,6 @@ use mathlib.Core.Path.{refl, sym, ◌∙◌}
 use native.Mathlib.Omega.{arith}
 use borrow.Author.Rules.{rules}
 use borrow.Author.Tests.{le-leb, lt-leb}
-use lib.ListN.{length-map}
 use Rattle.octets.proofs.Tests.{and-next, and-not-left}
 use Rattle.headers.proofs.Items.{item-next, item-not, item-end}
 use Rattle.envelope.specs.Rules.{call_in}

@@ -1,6 +1,6 @@
 -- What a message may have besides, each behind the last.
 use mathlib.Core.List.{◌++◌}
-use Rattle.layout.specs.Layout.{headers, fragment, fragment_if, stream, stream_if, headers_if, options}
+use Rattle.layout.specs.Layout.{fragment_if, stream_if, headers_if, options}
 use Rattle.datagram_head.proofs.Puts.{first-room, next-room, both}
 use Rattle.datagram_head.proofs.groups.put_options.Goals as goal
 

@@ -1,5 +1,5 @@
 -- One hop and a shorter list.
-use Rattle.std.proofs.Common.{ap, arith, length, refl}
+use Rattle.std.proofs.Common.{ap, length, refl}
 use lib.ListN.{length-set}
 use Rattle.layout.specs.Texts.{no_hops}
 use Rattle.layout.specs.Layout.{call}

@@ -2,7 +2,6 @@
 use mathlib.Core.Path.{sym, ap}
 use Rattle.replies.specs.Replies.{reply_text}
 use Rattle.line.specs.Reading as reading
-use Rattle.talk.specs.Answer.{says}
 use Rattle.talk.specs.Talk.{turn_in}
 use Rattle.talk.proofs.Turns.{offered-as}
 use Rattle.talk.proofs.lines.hear_offer.Goals as goal
