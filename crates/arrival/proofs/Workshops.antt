@@ -1,11 +1,12 @@
 -- W14, OF TWO WORKSHOPS: what a chain did with one stream is what a row by itself did, so the list is that row's.
+use Rattle.std.specs.Prelude.{if◌then◌else◌}
 use Prim.Native.Nat.{ℕ}
 use mathlib.Core.Path.{◌≡◌, refl, sym, ap, ◌∙◌, subst}
 use mathlib.Core.Bool.{Bool, true, false}
 use mathlib.Core.List.{List, []}
 use mathlib.Core.Logic.{◌⊎◌, inl, inr}
 use mathlib.Core.Option.{Option, none, some as just}
-use Rattle.octets.specs.Words.{if◌then◌else◌}
+
 use Rattle.octets.proofs.Tests.{if_yes}
 use Rattle.refusals.specs.Numbers.{no_callsign, stream_id_malformed, no_such_stream}
 use Rattle.callsigns.specs.Callsign.{callsign}

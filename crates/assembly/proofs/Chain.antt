@@ -1,5 +1,6 @@
 -- THEOREM: over any chain of adds, collects and sweeps from free groups, in which the host lends the same bytes unaltered, a collect that is not refused
 -- gives exactly the bytes of the M fragments that were added under its key since the group opened, in the order of N, whatever the order of arrival.
+use Rattle.std.specs.Prelude.{if◌then◌else◌}
 use mathlib.Core.Path.{◌≡◌, refl, sym, ap, ◌∙◌, subst}
 use Prim.Native.Nat.{ℕ, ◌-◌, ◌≤◌, ◌<◌}
 use native.Mathlib.Omega.{arith}
@@ -7,7 +8,7 @@ use mathlib.Core.Bool.{Bool, true, false}
 use mathlib.Core.List.{List, [], ◌∷◌, map}
 use lib.ListN.{length, get_or, get_or-replicate}
 use borrow.Author.Tests.{eq-eqb}
-use Rattle.octets.specs.Words.{if◌then◌else◌, ◌and◌, no, every, between, ◌=?◌}
+use Rattle.octets.specs.Words.{◌and◌, no, every, between, ◌=?◌}
 use Rattle.octets.specs.Bytes.{front, placed}
 use Rattle.octets.proofs.Tests.{and_both, true-not-false, inside}
 use Rattle.refusals.specs.Numbers.{state_broken}

@@ -1,11 +1,12 @@
 -- THEOREM: every call returns groups that keep the rules, if it is handed such.
+use Rattle.std.specs.Prelude.{if◌then◌else◌}
 use mathlib.Core.Path.{◌≡◌, refl, ◌∙◌}
 use Prim.Native.Nat.{ℕ, ◌-◌, ◌≤◌}
 use mathlib.Core.Bool.{Bool, true, false}
 use mathlib.Core.List.{List, [], ◌∷◌, map}
 use lib.ListN.{length, set, length-set, length-map}
 use borrow.Author.Tests.{eq-eqb}
-use Rattle.octets.specs.Words.{if◌then◌else◌, ◌and◌, ◌or◌, no, every, some, ◌≤?◌}
+use Rattle.octets.specs.Words.{◌and◌, ◌or◌, no, every, some, ◌≤?◌}
 use Rattle.octets.proofs.Tests.{and_left, and_right, and_both, true-not-false}
 use Rattle.refusals.specs.Numbers.{state_broken}
 use Rattle.groupkeys.specs.declared.Key.{Key}

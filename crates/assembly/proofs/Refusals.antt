@@ -1,11 +1,12 @@
 -- THEOREM: a refusal changes nothing: not the groups, not the store, not the buffer that is lent.
+use Rattle.std.specs.Prelude.{if◌then◌else◌}
 use mathlib.Core.Path.{◌≡◌, refl, ap}
 use Prim.Native.Nat.{ℕ}
 use native.Mathlib.Omega.{arith}
 use mathlib.Core.Bool.{Bool, true, false}
 use mathlib.Core.List.{List, map}
 use lib.ListN.{length}
-use Rattle.octets.specs.Words.{if◌then◌else◌, no}
+use Rattle.octets.specs.Words.{no}
 use Rattle.refusals.specs.Numbers.{state_broken}
 use Rattle.groups.specs.declared.Groups.{Groups}
 use Rattle.groups.specs.Groups.{keeps_groups}

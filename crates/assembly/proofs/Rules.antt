@@ -1,4 +1,5 @@
 -- Laws of the rules that the groups keep: distinct keys after a group is set, a group with one fragment more, the key of good names.
+use Rattle.std.specs.Prelude.{if◌then◌else◌}
 use mathlib.Core.Path.{◌≡◌, refl, sym, ◌∙◌}
 use Prim.Native.Nat.{ℕ, zero, suc, ◌+◌, ◌-◌, ◌≤◌, ◌<◌}
 use native.Mathlib.Omega.{arith}
@@ -6,7 +7,7 @@ use mathlib.Core.Bool.{Bool, true, false}
 use mathlib.Core.List.{List, [], ◌∷◌}
 use lib.ListN.{length, get_or, set, length-set}
 use borrow.Author.Tests.{eq-eqb, lt-ltb, le-leb, eqb-true}
-use Rattle.octets.specs.Words.{if◌then◌else◌, ◌and◌, ◌or◌, no, every, some, between, ◌=?◌}
+use Rattle.octets.specs.Words.{◌and◌, ◌or◌, no, every, some, between, ◌=?◌}
 use Rattle.octets.proofs.Tests.{if_yes, and_left, and_right, and_both, and-next, true-not-false, inside, inside-low, inside-high}
 use Rattle.refusals.specs.Numbers.{no_callsign, fragment_malformed}
 use Rattle.callsigns.proofs.Lengths.{callsign-short}

@@ -1,4 +1,5 @@
 -- Groups and a store that agree with what a history says: in the empty house, and after every call.
+use Rattle.std.specs.Prelude.{if◌then◌else◌}
 use mathlib.Core.Path.{◌≡◌, refl, sym, ap, ◌∙◌, subst}
 use Prim.Native.Nat.{ℕ, zero, suc, ◌+◌, ◌-◌, ◌≤◌, ◌<◌}
 use native.Mathlib.Omega.{arith}
@@ -8,7 +9,7 @@ use mathlib.Core.List.{List, [], ◌∷◌, map}
 use mathlib.Core.Logic.{◌⊎◌, inl, inr}
 use lib.ListN.{length, get_or, get_or-replicate, get_or-map}
 use lib.Seq.{get_or-set_same, get_or-set_other}
-use Rattle.octets.specs.Words.{if◌then◌else◌, ◌and◌, no as not, every, some, ◌≤?◌}
+use Rattle.octets.specs.Words.{◌and◌, no as not, every, some, ◌≤?◌}
 use Rattle.octets.specs.Bytes.{placed}
 use Rattle.octets.proofs.Tests.{if_yes, if_no, and_left, and_right, and_both, and-next, true-not-false}
 use Rattle.groupkeys.specs.declared.Key.{Key}

@@ -1,6 +1,6 @@
 -- Document 01, "Fragments", over many calls: the history of a house store, and what it says by itself of the fragments that were added under a key.
-use Rattle.std.specs.Prelude.{◌≡◌, ℕ, zero, suc, ◌-◌, ◌≤◌, Bool, true, false, List, [], ◌∷◌, ◌++◌, length}
-use Rattle.octets.specs.Words.{if◌then◌else◌, ◌and◌, no, every, some, between, ◌≤?◌, ◌=?◌}
+use Rattle.std.specs.Prelude.{◌≡◌, ℕ, zero, suc, ◌-◌, ◌≤◌, Bool, true, false, List, [], ◌∷◌, ◌++◌, length, if◌then◌else◌}
+use Rattle.octets.specs.Words.{◌and◌, no, every, some, between, ◌≤?◌, ◌=?◌}
 use Rattle.octets.specs.Bytes.{front}
 use Rattle.groupkeys.specs.declared.Key.{Key}
 use Rattle.groupkeys.specs.declared.Named.{Named}

@@ -1,4 +1,5 @@
 -- Callsigns: what each shape of suffix comes to, and what the reader's tests come to.
+use Rattle.std.specs.Prelude.{if◌then◌else◌}
 use Prim.Native.Nat.{ℕ, ◌+◌, ◌-◌, ◌≤◌, ◌<◌}
 use mathlib.Core.Path.{◌≡◌, refl, sym, ◌∙◌}
 use mathlib.Core.Bool.{true, false}
@@ -6,7 +7,7 @@ use mathlib.Core.List.{List, [], ◌∷◌}
 use native.Mathlib.Omega.{arith}
 use borrow.Author.Tests.{eq-eqb, ne_eqb}
 use lib.ListN.{length, get_or, take, drop}
-use Rattle.octets.specs.Words.{if◌then◌else◌, ◌and◌, ◌=?◌, between}
+use Rattle.octets.specs.Words.{◌and◌, ◌=?◌, between}
 use Rattle.octets.proofs.Tests.{if_yes, if_no, and_both, and-not-left, and-not-right, inside, below, above}
 use Rattle.callsigns.specs.Runs.{run}
 use Rattle.callsigns.specs.Callsign.{alnum, suffix, suffix_ssid, base_length, ssid, callsign, call_of, callsign_of}

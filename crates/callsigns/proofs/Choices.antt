@@ -1,7 +1,7 @@
 -- An answer that a test chose between two: where it is not the one, the test is known, and it is the other.
+use Rattle.std.specs.Prelude.{if◌then◌else◌}
 use mathlib.Core.Path.{◌≡◌, refl}
 use mathlib.Core.Bool.{Bool, true, false}
-use Rattle.octets.specs.Words.{if◌then◌else◌}
 
 pub chosen : {A : Type 0} (t : Bool) (a b c : A) → (if t then a else b) ≡ c → (b ≡ c → ⊥) → (t ≡ true) × (a ≡ c)
 chosen true a b c e n = (refl, e)

@@ -1,4 +1,5 @@
 -- Destinations: what the reader's tests come to.
+use Rattle.std.specs.Prelude.{if◌then◌else◌}
 use Prim.Native.Nat.{ℕ, ◌+◌, ◌-◌, ◌≤◌, ◌<◌}
 use mathlib.Core.Path.{◌≡◌, sym, ◌∙◌}
 use mathlib.Core.Bool.{false, true}
@@ -7,7 +8,7 @@ use native.Mathlib.Omega.{arith}
 use borrow.Author.Tests.{eq-eqb, ne_eqb}
 use lib.ListN.{length, get_or, take, drop}
 use lib.Seq.{drop-length}
-use Rattle.octets.specs.Words.{if◌then◌else◌, ◌and◌, ◌=?◌, between}
+use Rattle.octets.specs.Words.{◌and◌, ◌=?◌, between}
 use Rattle.octets.proofs.Lists.{drop-next}
 use Rattle.octets.proofs.Tests.{if_yes, if_no, and_both, and-not-left, and-not-right, inside, below, above}
 use Rattle.callsigns.specs.Runs.{run}

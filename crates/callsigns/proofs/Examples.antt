@@ -1,9 +1,10 @@
 -- Worked cases of the definitions, each computed: the numbers that are SSIDs, and names of document 01.
+use Rattle.std.specs.Prelude.{if◌then◌else◌}
 use Prim.Native.Nat.{ℕ, zero, suc, ◌+◌, ◌/◌, ◌%◌}
 use mathlib.Core.Path.{◌≡◌, refl}
 use mathlib.Core.Bool.{true, false}
 use mathlib.Core.List.{List, [], ◌∷◌}
-use Rattle.octets.specs.Words.{if◌then◌else◌, ◌and◌, no, ◌<?◌, ◌=?◌, between, every}
+use Rattle.octets.specs.Words.{◌and◌, no, ◌<?◌, ◌=?◌, between, every}
 use Rattle.callsigns.specs.Runs.{run, rest}
 use Rattle.callsigns.specs.Callsign.{alnum, suffix, suffix_ssid, base_length, ssid, callsign, call_of, callsign_of}
 use Rattle.callsigns.specs.Destination.{app_byte, at_callsign, destination, address_of, destination_of}

@@ -1,4 +1,5 @@
 -- The bytes of one kind that a text begins with: a loop counts them, and what follows them is the text without them.
+use Rattle.std.specs.Prelude.{if◌then◌else◌}
 use Prim.Native.Nat.{ℕ, ◌+◌, ◌-◌, ◌<◌}
 use mathlib.Core.Path.{◌≡◌, refl, sym, ◌∙◌}
 use mathlib.Core.Bool.{Bool, true, false}
@@ -6,7 +7,6 @@ use mathlib.Core.List.{List, [], ◌∷◌}
 use native.Mathlib.Omega.{arith}
 use lib.ListN.{length, get_or, take, drop, length-drop}
 use lib.Seq.{drop-length, take_all}
-use Rattle.octets.specs.Words.{if◌then◌else◌}
 use Rattle.octets.proofs.Lists.{drop-next}
 use Rattle.callsigns.specs.Runs.{run, rest}
 

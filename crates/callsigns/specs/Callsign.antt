@@ -1,6 +1,6 @@
 -- Document 01, "Names and fields": callsigns, and when two of them are equal.
-use Rattle.std.specs.Prelude.{ℕ, ◌+◌, ◌-◌, Bool, true, false, List, [], ◌∷◌, length}
-use Rattle.octets.specs.Words.{if◌then◌else◌, ◌and◌, ◌or◌, ◌=?◌, between}
+use Rattle.std.specs.Prelude.{ℕ, ◌+◌, ◌-◌, Bool, true, false, List, [], ◌∷◌, length, if◌then◌else◌}
+use Rattle.octets.specs.Words.{◌and◌, ◌or◌, ◌=?◌, between}
 use Rattle.octets.specs.Bytes.{same}
 use Rattle.callsigns.specs.Runs.{run, rest}
 use Rattle.callsigns.specs.declared.Call.{Call}

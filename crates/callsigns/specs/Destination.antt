@@ -1,6 +1,6 @@
 -- Document 01, "Names and fields": destinations.
-use Rattle.std.specs.Prelude.{ℕ, Bool, false, List, [], ◌∷◌, length, drop}
-use Rattle.octets.specs.Words.{if◌then◌else◌, ◌and◌, ◌or◌, ◌=?◌, between}
+use Rattle.std.specs.Prelude.{ℕ, Bool, false, List, [], ◌∷◌, length, drop, if◌then◌else◌}
+use Rattle.octets.specs.Words.{◌and◌, ◌or◌, ◌=?◌, between}
 use Rattle.callsigns.specs.Runs.{run, rest}
 use Rattle.callsigns.specs.Callsign.{alnum, callsign, call_of}
 use Rattle.callsigns.specs.declared.Address.{Address}

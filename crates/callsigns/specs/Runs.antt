@@ -1,6 +1,5 @@
 -- A name begins with bytes of one kind, and something follows them: both parts, for any kind of byte.
-use Rattle.std.specs.Prelude.{ℕ, Bool, List, [], ◌∷◌}
-use Rattle.octets.specs.Words.{if◌then◌else◌}
+use Rattle.std.specs.Prelude.{ℕ, Bool, List, [], ◌∷◌, if◌then◌else◌}
 
 -- the bytes of the kind p that s begins with
 unfoldable pub run : (ℕ → Bool) → List ℕ → List ℕ

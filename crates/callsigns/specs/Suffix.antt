@@ -1,6 +1,6 @@
 -- What the private readers of a callsign's suffix answer. No public promise rests on these two.
-use Rattle.std.specs.Prelude.{ℕ, ◌+◌, ◌-◌, List}
-use Rattle.octets.specs.Words.{if◌then◌else◌, between}
+use Rattle.std.specs.Prelude.{ℕ, ◌+◌, ◌-◌, List, if◌then◌else◌}
+use Rattle.octets.specs.Words.{between}
 use Rattle.callsigns.specs.Callsign.{suffix, suffix_ssid}
 use Rattle.callsigns.specs.declared.parts.Suffix.{Suffix}
 use Rattle.callsigns.specs.declared.parts.Suffix.TheVariants.{Ssid, Bad}

@@ -1,11 +1,12 @@
 -- What is said of the check as a whole: it may be fed in parts, its published value, and that one changed byte changes it.
+use Rattle.std.specs.Prelude.{if◌then◌else◌}
 use mathlib.Core.Path.{◌≡◌, refl, sym, ap, ◌∙◌}
 use mathlib.Core.List.{List, [], ◌∷◌, ◌++◌}
 use Prim.Native.Nat.{ℕ, zero, suc, ◌+◌, ◌*◌, ◌/◌, ◌%◌, ◌^◌, ◌<◌}
 use native.Mathlib.Omega.{arith}
 use lib.Pow.{split}
 use lib.Bits.{bit_xor, xor_lt, xor_comm}
-use Rattle.octets.specs.Words.{if◌then◌else◌, ◌=?◌}
+use Rattle.octets.specs.Words.{◌=?◌}
 use Rattle.octets.specs.Bytes.{Bytes}
 use Rattle.crc16.specs.Crc.{polynomial, start, bit_feed, bits_feed, bits, crc_feed, crc16}
 use Rattle.crc16.proofs.Xor.{xor-odd, xor-twice, xor-cancel}

@@ -1,4 +1,5 @@
 -- The register is linear: a byte's eight bits at once, and what stood in the register's lower half rides along.
+use Rattle.std.specs.Prelude.{if◌then◌else◌}
 use mathlib.Core.Path.{◌≡◌, refl, sym, ap, ap₂, ◌∙◌}
 use mathlib.Core.Bool.{Bool, true, false}
 use mathlib.Core.List.{List, [], ◌∷◌}
@@ -7,7 +8,7 @@ use native.Mathlib.Nat.{mod-lt, add-zero}
 use native.Mathlib.Omega.{arith}
 use lib.Pow.{split, pow_pos}
 use lib.Bits.{bit_xor, xor_shr, xor_mod, xor_lt, xor_block, xor_zero_r, xor_shifted}
-use Rattle.octets.specs.Words.{if◌then◌else◌, ◌=?◌}
+use Rattle.octets.specs.Words.{◌=?◌}
 use Rattle.crc16.specs.Crc.{polynomial, bit_feed, bits_feed, bits}
 use Rattle.crc16.proofs.Every.{agree, agreed}
 use Rattle.crc16.proofs.Xor.{xor_assoc, xor-swap}

@@ -1,8 +1,8 @@
 -- CRC-16/CCITT-FALSE (document 01, "The ihave line"): polynomial 0x1021, start 0xFFFF, no reflection, no final xor.
 -- A register of sixteen bits takes the text's bits one by one.
-use Rattle.std.specs.Prelude.{List, [], ◌∷◌, ℕ, ◌*◌, ◌/◌, ◌%◌, ◌^◌}
+use Rattle.std.specs.Prelude.{List, [], ◌∷◌, ℕ, ◌*◌, ◌/◌, ◌%◌, ◌^◌, if◌then◌else◌}
 use Rattle.std.specs.Int.Bits.{bit_xor}
-use Rattle.octets.specs.Words.{if◌then◌else◌, ◌=?◌}
+use Rattle.octets.specs.Words.{◌=?◌}
 
 abbrev pub polynomial : ℕ
 polynomial = 0x1021

@@ -1,7 +1,7 @@
 -- Document 01, "The datagram": what reading answers, in the paper's order of refusals. `says` gives the paper's number and values for each case
 -- of the answer's enum.
-use Rattle.std.specs.Prelude.{ℕ, ◌+◌, Bool, false, List, [], ◌∷◌, length, take, drop}
-use Rattle.octets.specs.Words.{if◌then◌else◌, no, ◌<?◌, ◌≤?◌, ◌=?◌}
+use Rattle.std.specs.Prelude.{ℕ, ◌+◌, Bool, false, List, [], ◌∷◌, length, take, drop, if◌then◌else◌}
+use Rattle.octets.specs.Words.{no, ◌<?◌, ◌≤?◌, ◌=?◌}
 use Rattle.octets.specs.Field.{Res, bad, got, num}
 use Rattle.refusals.specs.Numbers.{payload_too_long, longest_payload, not_version7, datagram_malformed}
 use Rattle.layout.specs.declared.Datagram.{Datagram}

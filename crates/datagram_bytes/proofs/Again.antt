@@ -1,4 +1,5 @@
 -- An accepted datagram, written again, has the same bytes; it is valid, and has at most 6,205 of them.
+use Rattle.std.specs.Prelude.{if◌then◌else◌}
 use Prim.Native.Nat.{ℕ, suc, ◌+◌, ◌≤◌}
 use mathlib.Core.Path.{◌≡◌, refl, ap, sym, ◌∙◌}
 use mathlib.Core.Bool.{Bool, true, false}
@@ -7,7 +8,7 @@ use native.Mathlib.Omega.{arith}
 use borrow.Author.Tests.{ltb-false, eqb-true}
 use lib.ListN.{length, take, drop, length-drop}
 use lib.Seq.{drop-drop, take_all}
-use Rattle.octets.specs.Words.{if◌then◌else◌, ◌<?◌, ◌≤?◌, ◌=?◌, no}
+use Rattle.octets.specs.Words.{◌<?◌, ◌≤?◌, ◌=?◌, no}
 use Rattle.octets.specs.Numbers.{little}
 use Rattle.octets.specs.Bytes.{Bytes}
 use Rattle.octets.specs.Field.{Res, bad, got, num}

@@ -1,4 +1,5 @@
 -- What reading back clears is what the message's own rule of tidiness clears.
+use Rattle.std.specs.Prelude.{if◌then◌else◌}
 use Prim.Native.Nat.{ℕ}
 use mathlib.Core.Path.{◌≡◌, refl, ap, ◌∙◌}
 use mathlib.Core.Bool.{Bool, true, false}
@@ -8,7 +9,7 @@ use borrow.Author.Tests.{leb-true, leb-false}
 use lib.ListN.{length, length-take, length-map}
 use lib.IntN.{ℤ, pos}
 use Rattle.octets.proofs.SignLaws.{twos_back}
-use Rattle.octets.specs.Words.{if◌then◌else◌, ◌≤?◌}
+use Rattle.octets.specs.Words.{◌≤?◌}
 use Rattle.octets.specs.Field.{Field, num, when, signed_num}
 use Rattle.octets.proofs.Tests.{and_left, and_right}
 use Rattle.headers.specs.declared.Headers.{Headers}

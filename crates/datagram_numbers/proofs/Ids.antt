@@ -1,4 +1,5 @@
 -- An id at the front of a part, from what reading its seven bytes answered.
+use Rattle.std.specs.Prelude.{if◌then◌else◌}
 use Prim.Native.Nat.{ℕ, ◌≤◌, ◌<◌}
 use mathlib.Core.Path.{◌≡◌, refl, ap, sym, ◌∙◌}
 use mathlib.Core.Bool.{Bool, true, false}
@@ -6,7 +7,7 @@ use mathlib.Core.List.{List}
 use native.Mathlib.Omega.{arith}
 use borrow.Author.Tests.{le-leb, lt-leb, eq-eqb}
 use lib.ListN.{length, take, length-take}
-use Rattle.octets.specs.Words.{if◌then◌else◌, every}
+use Rattle.octets.specs.Words.{every}
 use Rattle.octets.specs.Field.{Res, bad, got, bind}
 use Rattle.text.specs.Digits.{is_digit}
 use Rattle.text.specs.Hex.{hex_value, id_of}

@@ -1,6 +1,6 @@
 -- What the readers of a datagram's texts answer: what reading the field finds, and blanks where it is not there.
-use Rattle.std.specs.Prelude.{ℕ, ◌+◌, ◌-◌, ◌≤◌, Bool, true, false, List, [], length, take, drop}
-use Rattle.octets.specs.Words.{if◌then◌else◌, ◌≤?◌}
+use Rattle.std.specs.Prelude.{ℕ, ◌+◌, ◌-◌, ◌≤◌, Bool, true, false, List, [], length, take, drop, if◌then◌else◌}
+use Rattle.octets.specs.Words.{◌≤?◌}
 use Rattle.octets.specs.Field.{Res, bad, got, bind, raw}
 use Rattle.headers.specs.declared.Header.{Header}
 use Rattle.envelope.specs.declared.CallText.{CallText}

@@ -1,7 +1,7 @@
 -- Document 01, "The datagram" and "Numbers the node says no with": what the writer answers, in the paper's order of refusals, and what the
 -- lent buffer then holds. `says` gives the paper's number and values for each case of the answer's enum.
-use Rattle.std.specs.Prelude.{ℕ, List, length}
-use Rattle.octets.specs.Words.{if◌then◌else◌, no, ◌<?◌}
+use Rattle.std.specs.Prelude.{ℕ, List, length, if◌then◌else◌}
+use Rattle.octets.specs.Words.{no, ◌<?◌}
 use Rattle.octets.specs.Bytes.{front}
 use Rattle.refusals.specs.Numbers.{payload_too_long, longest_payload, buffer_too_short, datagram_malformed}
 use Rattle.layout.specs.declared.Datagram.{Datagram}

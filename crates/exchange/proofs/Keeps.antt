@@ -1,4 +1,5 @@
 -- THEOREM: an opening's session keeps the rules, and a call keeps them, if it is handed a session that keeps them.
+use Rattle.std.specs.Prelude.{if◌then◌else◌}
 use mathlib.Core.Path.{◌≡◌, refl, sym, ap, ◌∙◌}
 use Prim.Native.Nat.{ℕ, zero, suc, ◌+◌, ◌≤◌, ◌<◌}
 use native.Mathlib.Omega.{arith}
@@ -7,7 +8,7 @@ use mathlib.Core.List.{List, []}
 use lib.ListN.{length, drop, get_or, set, length-set}
 use lib.Seq.{drop-set-lt}
 use borrow.Author.Tests.{lt-ltb, le-leb, eqb-true, eqb-false, ltb-true, ltb-false}
-use Rattle.octets.specs.Words.{if◌then◌else◌, ◌and◌, no, every, ◌<?◌, ◌≤?◌, ◌=?◌}
+use Rattle.octets.specs.Words.{◌and◌, no, every, ◌<?◌, ◌≤?◌, ◌=?◌}
 use Rattle.octets.proofs.Tests.{and_left, and_right, and_both, if_yes}
 use Rattle.octets.proofs.Lists.{drop-next}
 use Rattle.refusals.specs.Numbers.{line_malformed, chk_differs, format_d, payload_too_long, longest_payload, buffer_too_short}

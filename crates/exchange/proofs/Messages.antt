@@ -1,6 +1,7 @@
 -- THEOREMS over any list of calls, from the opening on: a message comes only with the right id over exactly the bytes announced, which are the
 -- bytes received since the data line, whatever was done to the buffer, `len=0` too; and a place of the buffer holds the payload's byte if every
 -- buffer lent since it came had there what the call before left.
+use Rattle.std.specs.Prelude.{if◌then◌else◌}
 use mathlib.Core.Path.{◌≡◌, refl, sym, ap, ◌∙◌, subst}
 use Prim.Native.Nat.{ℕ, ◌+◌, ◌-◌, ◌≤◌, ◌<◌}
 use native.Mathlib.Omega.{arith}
@@ -10,7 +11,7 @@ use mathlib.Core.List.{List, [], ◌∷◌, ◌++◌, append-nil}
 use lib.ListN.{length, take, drop, get_or, length-append, take-append-drop, get_or-append}
 use lib.Seq.{get_or-append-add, get_or-take, length-take-le, take_all, ext_get_or}
 use borrow.Author.Tests.{eqb-true, eqb-false, ltb-false, lt-ltb, eq-eqb, ne_eqb}
-use Rattle.octets.specs.Words.{if◌then◌else◌, ◌and◌, ◌<?◌, ◌=?◌}
+use Rattle.octets.specs.Words.{◌and◌, ◌<?◌, ◌=?◌}
 use Rattle.octets.specs.Bytes.{placed}
 use Rattle.octets.proofs.Tests.{if_yes, if_no, and_left, and_right}
 use Rattle.octets.proofs.Lists.{placed-in, length-placed}

@@ -1,6 +1,6 @@
 -- A host of a session. At each call it lends a piece of the peer's bytes, any payload buffer, whatever it did to it, and any room for a reply.
-use Rattle.std.specs.Prelude.{ℕ, Bool, true, List, [], ◌∷◌, ◌++◌, length, take, get_or}
-use Rattle.octets.specs.Words.{if◌then◌else◌, ◌and◌, ◌<?◌, ◌=?◌}
+use Rattle.std.specs.Prelude.{ℕ, Bool, true, List, [], ◌∷◌, ◌++◌, length, take, get_or, if◌then◌else◌}
+use Rattle.octets.specs.Words.{◌and◌, ◌<?◌, ◌=?◌}
 use Rattle.machine.specs.Machine.{Out, Seen}
 use Rattle.machine.specs.Hosts.{bytes_used, seen_by, Through}
 use Rattle.talk.specs.declared.Session.{Session}

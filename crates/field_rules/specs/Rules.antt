@@ -1,6 +1,6 @@
 -- Document 01, "Names and fields": the rules of the numbers that a line and a datagram share.
-use Rattle.std.specs.Prelude.{ℕ, ◌^◌, Bool, true}
-use Rattle.octets.specs.Words.{if◌then◌else◌, ◌and◌, ◌<?◌, between}
+use Rattle.std.specs.Prelude.{ℕ, ◌^◌, Bool, true, if◌then◌else◌}
+use Rattle.octets.specs.Words.{◌and◌, ◌<?◌, between}
 
 -- an id is 7 hexadecimal digits: a number of 28 bits
 unfoldable pub id_in : ℕ → Bool

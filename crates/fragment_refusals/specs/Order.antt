@@ -1,6 +1,6 @@
 -- Document 01, "Fragments", by the order of the table: 40 first, then 23, then the lowest number, and 5 last; 0 where nothing refuses.
-use Rattle.std.specs.Prelude.{ℕ, Bool}
-use Rattle.octets.specs.Words.{if◌then◌else◌, ◌and◌, between, ◌<?◌, ◌≤?◌}
+use Rattle.std.specs.Prelude.{ℕ, Bool, if◌then◌else◌}
+use Rattle.octets.specs.Words.{◌and◌, between, ◌<?◌, ◌≤?◌}
 use Rattle.refusals.specs.Numbers.{state_broken, store_length, fragment_malformed, other_total, fragment_held, not_complete, buffer_too_short}
 use Rattle.groups.specs.Groups.{place}
 

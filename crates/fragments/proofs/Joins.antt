@@ -1,4 +1,5 @@
 -- The fragments' bytes, joined: how long they are together, and how a loop that copies them one by one comes to the whole.
+use Rattle.std.specs.Prelude.{if◌then◌else◌}
 use mathlib.Core.Path.{◌≡◌, refl, sym, ap, ◌∙◌}
 use Prim.Native.Nat.{ℕ, zero, suc, ◌+◌, ◌*◌, ◌-◌, ◌≤◌, ◌<◌}
 use native.Mathlib.Omega.{arith}
@@ -6,7 +7,7 @@ use mathlib.Core.Bool.{Bool, true, false}
 use mathlib.Core.List.{List, [], ◌∷◌, ◌++◌}
 use lib.ListN.{length, take, drop, get_or, length-append, length-take, length-drop}
 use borrow.Author.Tests.{eqb-true, leb-true, le-leb}
-use Rattle.octets.specs.Words.{if◌then◌else◌, ◌and◌, every, ◌<?◌, ◌≤?◌, ◌=?◌}
+use Rattle.octets.specs.Words.{◌and◌, every, ◌<?◌, ◌≤?◌, ◌=?◌}
 use Rattle.octets.specs.Bytes.{front, placed}
 use Rattle.octets.proofs.Tests.{and_left, and_right, and_both}
 use Rattle.octets.proofs.Lists.{length-placed, placed-in, placed-none, placed-append, every-at}

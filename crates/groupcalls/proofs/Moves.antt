@@ -1,5 +1,6 @@
 -- Every add is one of three moves: a refusal, a fragment more in the group of its key, a group opened for an unknown key.
 -- The theorems of the calls are proved of the moves.
+use Rattle.std.specs.Prelude.{if◌then◌else◌}
 use mathlib.Core.Path.{◌≡◌, refl, sym, ap, ◌∙◌}
 use Prim.Native.Nat.{ℕ, suc, ◌+◌, ◌-◌, ◌≤◌, ◌<◌}
 use native.Mathlib.Omega.{arith}
@@ -7,7 +8,7 @@ use mathlib.Core.Bool.{Bool, true, false}
 use mathlib.Core.List.{List, [], ◌∷◌}
 use lib.ListN.{get_or}
 use borrow.Author.Tests.{ltb-false, eqb-true}
-use Rattle.octets.specs.Words.{if◌then◌else◌, ◌or◌, no, some, ◌<?◌, ◌=?◌}
+use Rattle.octets.specs.Words.{◌or◌, no, some, ◌<?◌, ◌=?◌}
 use Rattle.refusals.specs.Numbers.{other_total, fragment_held, not_complete, buffer_too_short}
 use Rattle.groupkeys.specs.declared.Named.{Named}
 use Rattle.groups.specs.declared.Group.{Group}

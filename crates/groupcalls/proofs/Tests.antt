@@ -1,11 +1,12 @@
 -- What the tests of each call come to: the gate that add and collect share, the ranges of a fragment, the group that was found.
+use Rattle.std.specs.Prelude.{if◌then◌else◌}
 use mathlib.Core.Path.{◌≡◌, refl, sym, ap, ◌∙◌}
 use Prim.Native.Nat.{ℕ, ◌-◌, ◌≤◌, ◌<◌}
 use native.Mathlib.Omega.{arith}
 use mathlib.Core.Bool.{Bool, true, false}
 use lib.ListN.{length}
 use borrow.Author.Tests.{lt-ltb, le-ltb, ltb-true, ltb-false, leb-true, eqb-true}
-use Rattle.octets.specs.Words.{if◌then◌else◌, no, every, between, ◌<?◌, ◌=?◌}
+use Rattle.octets.specs.Words.{no, every, between, ◌<?◌, ◌=?◌}
 use Rattle.octets.proofs.Tests.{if_yes, if_no, and_left, and_right, inside-low, inside-high}
 use Rattle.octets.proofs.Lists.{every-at}
 use Rattle.refusals.specs.Numbers.{state_broken, store_length, fragment_malformed}

@@ -1,6 +1,6 @@
 -- Document 01, "Fragments": the calls on the groups, with the refusals in the order of the paper's table, 40 first, then 23, and 5 last.
-use Rattle.std.specs.Prelude.{ℕ, ◌-◌, Bool, true, get_or, set, replicate}
-use Rattle.octets.specs.Words.{if◌then◌else◌, no, ◌<?◌, ◌=?◌}
+use Rattle.std.specs.Prelude.{ℕ, ◌-◌, Bool, true, get_or, set, replicate, if◌then◌else◌}
+use Rattle.octets.specs.Words.{no, ◌<?◌, ◌=?◌}
 use Rattle.refusals.specs.Numbers.{state_broken, no_free_group, not_complete}
 use Rattle.fragment_refusals.specs.Order.{fragment_ranged, refuses_key, refuses_joining, refuses_collecting}
 use Rattle.groupkeys.specs.declared.Key.{Key}

@@ -1,10 +1,11 @@
 -- Equality of keys is an equivalence. Whoever keeps groups by key uses these laws and not what equality is made of.
+use Rattle.std.specs.Prelude.{if◌then◌else◌}
 use Prim.Native.Nat.{ℕ}
 use mathlib.Core.Path.{◌≡◌, refl, sym, ◌∙◌}
 use mathlib.Core.Bool.{Bool, true, false}
 use mathlib.Core.List.{List}
 use borrow.Author.Tests.{eq-eqb, eqb-true}
-use Rattle.octets.specs.Words.{if◌then◌else◌, ◌and◌, no, ◌=?◌}
+use Rattle.octets.specs.Words.{◌and◌, no, ◌=?◌}
 use Rattle.octets.proofs.Tests.{and_left, and_right, and_both, and-next, and-not-left, if_yes, if_no, true-not-false}
 use Rattle.callsigns.specs.Callsign.{same_call}
 use Rattle.callsigns.proofs.SameCall.{same_call-refl, same_call-sym, same_call-trans}

@@ -1,6 +1,6 @@
 -- Document 01, "Fragments": "a group's key is originator (may be absent) and master id". What a key is, when two are equal, and the rules that it keeps.
-use Rattle.std.specs.Prelude.{ℕ, Bool, false, List, [], length, take, drop, replicate}
-use Rattle.octets.specs.Words.{if◌then◌else◌, ◌and◌, no, ◌≤?◌, ◌=?◌}
+use Rattle.std.specs.Prelude.{ℕ, Bool, false, List, [], length, take, drop, replicate, if◌then◌else◌}
+use Rattle.octets.specs.Words.{◌and◌, no, ◌≤?◌, ◌=?◌}
 use Rattle.octets.specs.Bytes.{all_zero, front}
 use Rattle.refusals.specs.Numbers.{no_callsign, fragment_malformed}
 use Rattle.field_rules.specs.Rules.{id_in}

@@ -1,4 +1,5 @@
 -- Searches in the groups and in a group's fragments: what a turn of each loop comes to, and where what was found stands.
+use Rattle.std.specs.Prelude.{if◌then◌else◌}
 use mathlib.Core.Path.{◌≡◌, sym, ◌∙◌}
 use Prim.Native.Nat.{ℕ, suc, ◌+◌, ◌≤◌, ◌<◌, min}
 use native.Mathlib.Omega.{arith}
@@ -6,7 +7,7 @@ use mathlib.Core.Bool.{Bool, true, false}
 use mathlib.Core.List.{List, [], ◌∷◌, map}
 use lib.ListN.{length, get_or, take, drop, length-map, length-take, drop_of_length-le}
 use lib.Seq.{get_or-take}
-use Rattle.octets.specs.Words.{if◌then◌else◌, ◌and◌}
+use Rattle.octets.specs.Words.{◌and◌}
 use Rattle.octets.proofs.Tests.{and-not-left, and-next, no_true, no_false}
 use Rattle.octets.proofs.Lists.{drop-next}
 use Rattle.groups.specs.declared.Piece.{Piece}

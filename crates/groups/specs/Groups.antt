@@ -1,6 +1,6 @@
 -- Document 01, "Fragments": "4 groups, 16 places of 1,024 bytes each". What a group is, the rules that the groups keep (40), and the searches in them.
-use Rattle.std.specs.Prelude.{ℕ, ◌+◌, ◌*◌, Bool, true, false, List, [], ◌∷◌, length, take, replicate, get_or, set}
-use Rattle.octets.specs.Words.{if◌then◌else◌, ◌and◌, no, every, some, between, ◌<?◌, ◌≤?◌, ◌=?◌}
+use Rattle.std.specs.Prelude.{ℕ, ◌+◌, ◌*◌, Bool, true, false, List, [], ◌∷◌, length, take, replicate, get_or, set, if◌then◌else◌}
+use Rattle.octets.specs.Words.{◌and◌, no, every, some, between, ◌<?◌, ◌≤?◌, ◌=?◌}
 use Rattle.groupkeys.specs.declared.Key.{Key}
 use Rattle.groups.specs.declared.Piece.{Piece}
 use Rattle.groups.specs.declared.Group.{Group}

@@ -1,6 +1,6 @@
 -- Document 01, "Fragments": a sweep on the groups, and what a host sees of a group.
-use Rattle.std.specs.Prelude.{ℕ, ◌-◌, Bool, map}
-use Rattle.octets.specs.Words.{if◌then◌else◌, ◌and◌, no, ◌<?◌, ◌≤?◌}
+use Rattle.std.specs.Prelude.{ℕ, ◌-◌, Bool, map, if◌then◌else◌}
+use Rattle.octets.specs.Words.{◌and◌, no, ◌<?◌, ◌≤?◌}
 use Rattle.groups.specs.declared.Group.{Group}
 use Rattle.groups.specs.declared.Groups.{Groups}
 use Rattle.groups.specs.Groups.{free_group, complete, group_at}

@@ -1,6 +1,6 @@
 -- Texts held in arrays: the text, then zeros, beside its length. A text too long for its array is held as none.
-use Rattle.std.specs.Prelude.{ℕ, ◌+◌, List, [], length, replicate, set}
-use Rattle.octets.specs.Words.{if◌then◌else◌, ◌≤?◌}
+use Rattle.std.specs.Prelude.{ℕ, ◌+◌, List, [], length, replicate, set, if◌then◌else◌}
+use Rattle.octets.specs.Words.{◌≤?◌}
 use Rattle.octets.specs.Bytes.{front}
 use Rattle.headers.specs.declared.Header.{Header}
 use Rattle.headers.specs.declared.Headers.{Headers}

@@ -1,4 +1,5 @@
 -- Counting in lists of messages, lists whose numbers rise, and one more message among them.
+use Rattle.std.specs.Prelude.{if◌then◌else◌}
 use Prim.Native.Nat.{ℕ, ◌+◌, ◌<◌, ◌≤◌}
 use native.Mathlib.Omega.{arith}
 use native.Mathlib.Decide.{ℕ_discrete}
@@ -7,7 +8,7 @@ use mathlib.Core.Bool.{Bool, true, false}
 use mathlib.Core.List.{List, [], ◌∷◌, ◌++◌}
 use mathlib.Core.Logic.{◌⊎◌, inl, inr}
 use borrow.Author.Tests.{eq-eqb, ne_eqb, leb-true}
-use Rattle.octets.specs.Words.{if◌then◌else◌, ◌<?◌, ◌≤?◌, ◌=?◌}
+use Rattle.octets.specs.Words.{◌<?◌, ◌≤?◌, ◌=?◌}
 use Rattle.octets.proofs.Tests.{and_left, and_right}
 use Rattle.places.specs.declared.Held.{Held}
 use Rattle.rows.specs.Stream.{ascending, insert}

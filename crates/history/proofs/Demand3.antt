@@ -1,4 +1,5 @@
 -- DEMAND 3, over any chain of calls and loads, across restarts too, on the table that the code's promises speak of.
+use Rattle.std.specs.Prelude.{if◌then◌else◌}
 use Prim.Native.Nat.{ℕ, ◌≤◌, max}
 use native.Mathlib.Omega.{arith}
 use mathlib.Core.Path.{◌≡◌, refl, sym, ap, ◌∙◌, subst}
@@ -7,7 +8,7 @@ use mathlib.Core.List.{List, [], ◌∷◌}
 use mathlib.Core.Logic.{◌⊎◌, inl, inr}
 use mathlib.Core.Option.{Option, none, some as just}
 use lib.ListN.{length, length-take}
-use Rattle.octets.specs.Words.{if◌then◌else◌}
+
 use Rattle.octets.proofs.Tests.{if_yes, if_no}
 use Rattle.refusals.specs.Numbers.{still_holding}
 use Rattle.callsigns.specs.Callsign.{callsign}

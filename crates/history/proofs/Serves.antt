@@ -1,4 +1,5 @@
 -- A call on the table, seen from each stream: on its own stream it does what the row by itself does, and other streams it leaves alone.
+use Rattle.std.specs.Prelude.{if◌then◌else◌}
 use Prim.Native.Nat.{ℕ}
 use native.Mathlib.Omega.{arith}
 use mathlib.Core.Path.{◌≡◌, refl, sym, ap, ◌∙◌, subst}
@@ -6,7 +7,7 @@ use mathlib.Core.Bool.{Bool, true, false}
 use mathlib.Core.List.{List, [], ◌∷◌}
 use mathlib.Core.Logic.{◌⊎◌, inl, inr}
 use mathlib.Core.Option.{Option, none, some as just}
-use Rattle.octets.specs.Words.{if◌then◌else◌, every}
+use Rattle.octets.specs.Words.{every}
 use Rattle.octets.proofs.Tests.{if_yes, and_left, and_right}
 use Rattle.refusals.specs.Numbers.{no_callsign, stream_id_malformed, no_such_stream, still_holding}
 use Rattle.callsigns.specs.Callsign.{callsign}

@@ -1,9 +1,9 @@
 -- Demand 3's chain: calls on the table and loads, each handed the table as the one before left it, the first an empty one; and the images
 -- that saves of such tables wrote.
-use Rattle.std.specs.Prelude.{ℕ, max, ◌≡◌, Bool, true, List, [], ◌∷◌}
+use Rattle.std.specs.Prelude.{ℕ, max, ◌≡◌, Bool, true, List, [], ◌∷◌, if◌then◌else◌}
 use Rattle.std.proofs.Math.Option.{Option, none, some}
 use Rattle.std.proofs.Math.ListN as list
-use Rattle.octets.specs.Words.{if◌then◌else◌, ◌and◌}
+use Rattle.octets.specs.Words.{◌and◌}
 use Rattle.keys.specs.declared.Key.{Key}
 use Rattle.keys.specs.Key.{same_key, named_of}
 use Rattle.places.specs.declared.Held.{Held}

@@ -1,7 +1,7 @@
 -- Demand 3: the history of a stream, and what a history says by itself. Nothing here looks into a row, but for the row with which a
 -- history begins where an image brought it.
-use Rattle.std.specs.Prelude.{ℕ, ◌+◌, ◌<◌, ◌≤◌, max, ◌≡◌, Bool, true, List, [], ◌∷◌, ◌++◌, ◌⊎◌}
-use Rattle.octets.specs.Words.{if◌then◌else◌, ◌=?◌}
+use Rattle.std.specs.Prelude.{ℕ, ◌+◌, ◌<◌, ◌≤◌, max, ◌≡◌, Bool, true, List, [], ◌∷◌, ◌++◌, ◌⊎◌, if◌then◌else◌}
+use Rattle.octets.specs.Words.{◌=?◌}
 use Rattle.places.specs.declared.Held.{Held}
 use Rattle.rows.specs.Stream.{Stream, ascending}
 

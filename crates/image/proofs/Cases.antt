@@ -1,4 +1,5 @@
 -- The two calls by their cases: what holds of each outcome that document 01 names holds of the call.
+use Rattle.std.specs.Prelude.{if◌then◌else◌}
 use Prim.Native.Nat.{ℕ, ◌<◌, ◌≤◌}
 use mathlib.Core.Path.{◌≡◌, refl}
 use mathlib.Core.Bool.{Bool, true, false}
@@ -6,7 +7,7 @@ use mathlib.Core.List.{List}
 use mathlib.Core.Option.{Option, none, some}
 use lib.ListN.{length}
 use borrow.Author.Tests.{ltb-true, ltb-false}
-use Rattle.octets.specs.Words.{if◌then◌else◌, no, ◌<?◌}
+use Rattle.octets.specs.Words.{no, ◌<?◌}
 use Rattle.octets.specs.Bytes.{front}
 use Rattle.refusals.specs.Numbers.{state_broken, buffer_too_short, no_saved_image}
 use Rattle.rows.specs.Answer.{accepted, Outcome, refuse}

@@ -1,5 +1,6 @@
 -- THEOREM: a load accepts exactly the images of tables that keep the rules. The image of such a table is read as that table (`saved_read`);
 -- what is read keeps the rules, and its image is the same bytes (`read-saved`).
+use Rattle.std.specs.Prelude.{if◌then◌else◌}
 use Prim.Native.Nat.{ℕ}
 use native.Mathlib.Omega.{arith}
 use mathlib.Core.Path.{◌≡◌, refl, sym, ap, ◌∙◌, subst}
@@ -8,7 +9,7 @@ use mathlib.Core.List.{List, ◌++◌}
 use mathlib.Core.Option.{none, some}
 use lib.ListN.{length, drop}
 use lib.Seq.{drop-append_seam}
-use Rattle.octets.specs.Words.{if◌then◌else◌, ◌and◌}
+use Rattle.octets.specs.Words.{◌and◌}
 use Rattle.octets.specs.Bytes.{Bytes, same}
 use Rattle.octets.specs.Field.{Res, bad, got}
 use Rattle.octets.proofs.Tests.{and_left, and_right}

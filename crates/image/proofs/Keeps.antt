@@ -1,5 +1,6 @@
 -- THEOREMS: a load returns a table that keeps the rules, if it was handed one; a load that is refused leaves the table, and a save that is
 -- refused the buffer.
+use Rattle.std.specs.Prelude.{if◌then◌else◌}
 use Prim.Native.Nat.{ℕ}
 use native.Mathlib.Omega.{arith}
 use mathlib.Core.Path.{◌≡◌, refl, sym, ap, ◌∙◌}
@@ -7,7 +8,7 @@ use mathlib.Core.Bool.{Bool, true, false}
 use mathlib.Core.List.{List}
 use mathlib.Core.Option.{none, some}
 use lib.ListN.{drop}
-use Rattle.octets.specs.Words.{if◌then◌else◌, ◌and◌}
+use Rattle.octets.specs.Words.{◌and◌}
 use Rattle.octets.specs.Bytes.{same}
 use Rattle.octets.specs.Field.{Res, bad, got}
 use Rattle.octets.proofs.Tests.{and_right}

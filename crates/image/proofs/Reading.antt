@@ -1,4 +1,5 @@
 -- What the steps of a load come to: the open rows counted, what was read, and the end.
+use Rattle.std.specs.Prelude.{if◌then◌else◌}
 use Prim.Native.Nat.{ℕ, zero, suc, ◌+◌, ◌≤◌}
 use native.Mathlib.Omega.{arith}
 use mathlib.Core.Path.{◌≡◌, refl, sym, ap, ◌∙◌, subst}
@@ -6,7 +7,7 @@ use mathlib.Core.Bool.{Bool, true, false}
 use mathlib.Core.List.{List, [], ◌∷◌}
 use mathlib.Core.Option.{none, some}
 use lib.ListN.{length, drop, length-drop}
-use Rattle.octets.specs.Words.{if◌then◌else◌, ◌and◌, no}
+use Rattle.octets.specs.Words.{◌and◌, no}
 use Rattle.octets.specs.Bytes.{same}
 use Rattle.octets.specs.Field.{Res, bad, got, bind}
 use Rattle.octets.proofs.Tests.{true-not-false, if_yes, if_no, no_true, no_false, and_both, and-not-left, and-not-right}

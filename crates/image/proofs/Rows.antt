@@ -1,4 +1,5 @@
 -- The rows of an image: what is written of them is read back, and what was read is what would be written.
+use Rattle.std.specs.Prelude.{if◌then◌else◌}
 use Prim.Native.Nat.{ℕ, zero, suc, ◌+◌, ◌<◌}
 use native.Mathlib.Omega.{arith}
 use mathlib.Core.Path.{◌≡◌, refl, sym, ap, ◌∙◌}
@@ -8,7 +9,7 @@ use mathlib.Core.Logic.{◌⊎◌, inl, inr}
 use lib.ListN.{length, take, drop, length-append, take-append-drop}
 use lib.Seq.{drop-append_seam, drop-drop}
 use borrow.Author.Tests.{eq-eqb, ne_eqb}
-use Rattle.octets.specs.Words.{if◌then◌else◌, every}
+use Rattle.octets.specs.Words.{every}
 use Rattle.octets.specs.Bytes.{Bytes, same}
 use Rattle.octets.specs.Field.{got, bind}
 use Rattle.octets.proofs.Tests.{if_yes, if_no, and_left, and_right}

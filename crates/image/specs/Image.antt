@@ -1,7 +1,7 @@
 -- Document 01, "The saved table": the image of a table, what an image says, and the two calls.
-use Rattle.std.specs.Prelude.{ℕ, ◌+◌, List, [], ◌∷◌, ◌++◌, length, drop}
+use Rattle.std.specs.Prelude.{ℕ, ◌+◌, List, [], ◌∷◌, ◌++◌, length, drop, if◌then◌else◌}
 use Rattle.std.proofs.Math.Option.{Option, none, some}
-use Rattle.octets.specs.Words.{if◌then◌else◌, ◌and◌, no, ◌<?◌}
+use Rattle.octets.specs.Words.{◌and◌, no, ◌<?◌}
 use Rattle.octets.specs.Bytes.{same, front}
 use Rattle.octets.specs.Field.{Res, bad, got}
 use Rattle.refusals.specs.Numbers.{state_broken, buffer_too_short, no_saved_image}

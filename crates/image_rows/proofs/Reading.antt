@@ -1,4 +1,5 @@
 -- What the steps of reading the rows come to: a row by its mark, and the rows one after the other.
+use Rattle.std.specs.Prelude.{if◌then◌else◌}
 use Prim.Native.Nat.{ℕ, suc, ◌+◌, ◌-◌, ◌<◌, ◌≤◌}
 use native.Mathlib.Omega.{arith}
 use mathlib.Core.Path.{◌≡◌, refl, sym, ap, ◌∙◌}
@@ -6,7 +7,7 @@ use mathlib.Core.Bool.{Bool, true, false}
 use mathlib.Core.List.{List, ◌∷◌, append-nil}
 use lib.ListN.{length, take, drop, set, length-set, length-drop, length-take}
 use lib.Seq.{take_all, drop-drop}
-use Rattle.octets.specs.Words.{if◌then◌else◌, no}
+use Rattle.octets.specs.Words.{no}
 use Rattle.octets.specs.Bytes.{same}
 use Rattle.octets.specs.Field.{Res, bad, got, bind}
 use Rattle.octets.proofs.Tests.{if_yes, if_no}

@@ -1,6 +1,6 @@
 -- Document 01, "Streams": "a row's key is originator and stream id". What a key is, when two are equal, and the rules that it keeps.
-use Rattle.std.specs.Prelude.{ℕ, ◌+◌, ◌*◌, ◌-◌, Bool, List, [], ◌∷◌, length, take, drop, get_or, replicate}
-use Rattle.octets.specs.Words.{if◌then◌else◌, ◌and◌, no, ◌≤?◌, ◌=?◌}
+use Rattle.std.specs.Prelude.{ℕ, ◌+◌, ◌*◌, ◌-◌, Bool, List, [], ◌∷◌, length, take, drop, get_or, replicate, if◌then◌else◌}
+use Rattle.octets.specs.Words.{◌and◌, no, ◌≤?◌, ◌=?◌}
 use Rattle.octets.specs.Bytes.{same, front, all_zero}
 use Rattle.refusals.specs.Numbers.{no_callsign, stream_id_malformed}
 use Rattle.callsigns.specs.Callsign.{callsign, same_call}

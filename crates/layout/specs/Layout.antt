@@ -1,7 +1,7 @@
 -- Source 000, "Datagram bearer": the layout of a version 7 datagram before its payload length, a line for each field, in its order and
 -- with its flag bit. Numbers are little-endian. Each field is read from the part that begins where the last one ended (`seq`).
-use Rattle.std.specs.Prelude.{ℕ, ◌+◌, ◌*◌, ◌/◌, ◌%◌, ◌^◌, Bool, true, List, [], length, take, replicate, ℤ, pos}
-use Rattle.octets.specs.Words.{if◌then◌else◌, ◌and◌, ◌<?◌, ◌≤?◌, ◌=?◌, between}
+use Rattle.std.specs.Prelude.{ℕ, ◌+◌, ◌*◌, ◌/◌, ◌%◌, ◌^◌, Bool, true, List, [], length, take, replicate, ℤ, pos, if◌then◌else◌}
+use Rattle.octets.specs.Words.{◌and◌, ◌<?◌, ◌≤?◌, ◌=?◌, between}
 use Rattle.octets.specs.Bytes.{front}
 use Rattle.octets.specs.Field.{Field, num, raw, only, when, seq, tagged, through, many, signed_num}
 use Rattle.text.specs.Digits.{is_digit}

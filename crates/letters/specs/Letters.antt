@@ -1,6 +1,6 @@
 -- Document 02, W4: "a to z become A to Z".
-use Rattle.std.specs.Prelude.{ℕ, ◌-◌, List, map}
-use Rattle.octets.specs.Words.{if◌then◌else◌, between}
+use Rattle.std.specs.Prelude.{ℕ, ◌-◌, List, map, if◌then◌else◌}
+use Rattle.octets.specs.Words.{between}
 
 -- the byte, with a to z become A to Z; any other byte is itself
 unfoldable pub upper : ℕ → ℕ

@@ -1,5 +1,6 @@
 -- A line is well formed where its head, its words, its groups and its fields are good. That no key stands twice is tested of the reserved keys
 -- among the words and of the others among the fields, which hold them as headers.
+use Rattle.std.specs.Prelude.{if◌then◌else◌}
 use Prim.Native.Nat.{ℕ, ◌≤◌}
 use mathlib.Core.Path.{◌≡◌, refl, ap, sym, ◌∙◌}
 use mathlib.Core.Bool.{Bool, true, false}
@@ -7,7 +8,7 @@ use mathlib.Core.List.{List, [], ◌∷◌, ◌++◌, map}
 use native.Mathlib.Omega.{arith}
 use lib.ListN.{length, take, drop, replicate, length-map}
 use lib.Seq.{take_at}
-use Rattle.octets.specs.Words.{if◌then◌else◌, ◌and◌, ◌or◌, no, ◌≤?◌, every, some}
+use Rattle.octets.specs.Words.{◌and◌, ◌or◌, no, ◌≤?◌, every, some}
 use Rattle.octets.specs.Bytes.{same}
 use Rattle.octets.proofs.Lists.{same-eq}
 use Rattle.octets.proofs.Tests.{and_left, and_right, and_both, inside-low, true-not-false}

@@ -1,6 +1,6 @@
 -- Document 01, "The ihave line": what reading a line finds. The line is split into tokens, each key is looked up, and the rules are tests.
-use Rattle.std.specs.Prelude.{ℕ, zero, suc, ◌-◌, Bool, true, List, length, take}
-use Rattle.octets.specs.Words.{if◌then◌else◌, ◌and◌, no, ◌=?◌}
+use Rattle.std.specs.Prelude.{ℕ, zero, suc, ◌-◌, Bool, true, List, length, take, if◌then◌else◌}
+use Rattle.octets.specs.Words.{◌and◌, no, ◌=?◌}
 use Rattle.text.specs.Hex.{hex_value}
 use Rattle.names.specs.Reserved.{key_chk}
 use Rattle.crc16.specs.Crc.{crc16}

@@ -1,6 +1,6 @@
 -- What the private functions promise one another; no public promise speaks of it.
-use Rattle.std.specs.Prelude.{ℕ, ◌-◌, Bool, true, List, length, take}
-use Rattle.octets.specs.Words.{if◌then◌else◌, ◌=?◌}
+use Rattle.std.specs.Prelude.{ℕ, ◌-◌, Bool, true, List, length, take, if◌then◌else◌}
+use Rattle.octets.specs.Words.{◌=?◌}
 use Rattle.crc16.specs.Crc.{crc16}
 use Rattle.line.specs.Reading.{blank_line}
 use Rattle.line.specs.declared.LineAnswer.{LineAnswer}

@@ -1,4 +1,5 @@
 -- The body as the code puts it together is the message's.
+use Rattle.std.specs.Prelude.{if◌then◌else◌}
 use Prim.Native.Nat.{ℕ, ◌+◌, ◌≤◌, ◌<◌}
 use mathlib.Core.Path.{◌≡◌, refl, sym, ap, ◌∙◌}
 use mathlib.Core.Bool.{Bool, true, false}
@@ -7,7 +8,7 @@ use native.Mathlib.Omega.{arith}
 use lib.ListN.{length, take, drop, replicate, length-replicate}
 use lib.Seq.{take_at}
 use borrow.Author.Tests.{le-leb, lt-leb, leb-true, leb-false}
-use Rattle.octets.specs.Words.{if◌then◌else◌, ◌≤?◌}
+use Rattle.octets.specs.Words.{◌≤?◌}
 use Rattle.octets.specs.Bytes.{fits, placed, front}
 use Rattle.octets.proofs.Tests.{if_yes, if_no}
 use Rattle.octets.proofs.Lists.{placed-in, length-placed}

@@ -1,6 +1,6 @@
 -- Document 01, "The ihave line": the bytes before the space that precedes `chk=`, held in an array of 512.
-use Rattle.std.specs.Prelude.{length, replicate}
-use Rattle.octets.specs.Words.{if◌then◌else◌, ◌≤?◌}
+use Rattle.std.specs.Prelude.{length, replicate, if◌then◌else◌}
+use Rattle.octets.specs.Words.{◌≤?◌}
 use Rattle.octets.specs.Bytes.{front}
 use Rattle.line.specs.Writing.{body_of}
 use Rattle.line.specs.declared.Line.{Line}

@@ -1,6 +1,6 @@
 -- A line as it is put together: the place behind bytes that were put into a lent array of 512 bytes.
-use Rattle.std.specs.Prelude.{ℕ, ◌+◌, ◌≡◌, List, length, replicate}
-use Rattle.octets.specs.Words.{if◌then◌else◌, ◌≤?◌}
+use Rattle.std.specs.Prelude.{ℕ, ◌+◌, ◌≡◌, List, length, replicate, if◌then◌else◌}
+use Rattle.octets.specs.Words.{◌≤?◌}
 use Rattle.octets.specs.Bytes.{fits, placed}
 
 -- the place behind w; 513 where w does not fit from the place `at` on

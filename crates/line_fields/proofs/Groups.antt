@@ -1,4 +1,5 @@
 -- The groups of a line's keys together: the first that is not good decides, and the fields are those that the tokens say.
+use Rattle.std.specs.Prelude.{if◌then◌else◌}
 use Prim.Native.Nat.{ℕ, ◌<◌}
 use mathlib.Core.Path.{◌≡◌, refl, ap, sym, ◌∙◌}
 use mathlib.Core.Bool.{true, false}
@@ -6,7 +7,7 @@ use mathlib.Core.List.{List, [], map}
 use lib.ListN.{get_or}
 use lib.IntN.{ℤ}
 use native.Mathlib.Omega.{arith}
-use Rattle.octets.specs.Words.{if◌then◌else◌, ◌and◌}
+use Rattle.octets.specs.Words.{◌and◌}
 use Rattle.octets.proofs.Tests.{if_yes, if_no, and_both, and-not-left, and-not-right}
 use Rattle.text.specs.Decimal.{number, signed}
 use Rattle.text.specs.Hex.{hex_value}

@@ -1,6 +1,6 @@
 -- Document 01, "The ihave line": what a line's tokens say, where the rules of every key hold.
-use Rattle.std.specs.Prelude.{ℕ, Bool, true, false, List}
-use Rattle.octets.specs.Words.{if◌then◌else◌, ◌and◌}
+use Rattle.std.specs.Prelude.{ℕ, Bool, true, false, List, if◌then◌else◌}
+use Rattle.octets.specs.Words.{◌and◌}
 use Rattle.text.specs.Decimal.{number, signed}
 use Rattle.text.specs.Hex.{hex_value}
 use Rattle.names.specs.Reserved.{key_s, key_dst, key_chk, key_ttl, key_src, key_mid, key_frag, key_sid, key_sn, key_gt}

@@ -1,9 +1,10 @@
 -- The head of a line: whether it is good, and the id that it says.
+use Rattle.std.specs.Prelude.{if◌then◌else◌}
 use Prim.Native.Nat.{ℕ}
 use mathlib.Core.Path.{◌≡◌, refl, ap, ◌∙◌}
 use mathlib.Core.Bool.{Bool, true, false}
 use mathlib.Core.List.{List}
-use Rattle.octets.specs.Words.{if◌then◌else◌, ◌and◌}
+use Rattle.octets.specs.Words.{◌and◌}
 use Rattle.octets.specs.Bytes.{same}
 use Rattle.octets.proofs.Tests.{true-not-false}
 use Rattle.text.specs.Hex.{is_hex, hex_value}

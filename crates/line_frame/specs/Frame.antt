@@ -1,6 +1,6 @@
 -- Document 01, "The ihave line": the line's text, its first two words, and the tokens behind them.
-use Rattle.std.specs.Prelude.{ℕ, Bool, false, List, length}
-use Rattle.octets.specs.Words.{if◌then◌else◌, ◌and◌, no, ◌≤?◌, ◌=?◌, every}
+use Rattle.std.specs.Prelude.{ℕ, Bool, false, List, length, if◌then◌else◌}
+use Rattle.octets.specs.Words.{◌and◌, no, ◌≤?◌, ◌=?◌, every}
 use Rattle.octets.specs.Bytes.{same}
 use Rattle.utf8.specs.Utf8.{utf8}
 use Rattle.text.specs.Hex.{is_hex}

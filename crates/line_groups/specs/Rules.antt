@@ -1,7 +1,7 @@
 -- Document 01, "The ihave line": the rules of a line's reserved keys. The value of a key that is not there is empty.
 -- What a line and a datagram have in common (`ttl` from 1, N from 1 to M, names) is said once, in `envelope`.
-use Rattle.std.specs.Prelude.{ℕ, Bool, true, List, [], ◌∷◌}
-use Rattle.octets.specs.Words.{if◌then◌else◌, ◌and◌}
+use Rattle.std.specs.Prelude.{ℕ, Bool, true, List, [], ◌∷◌, if◌then◌else◌}
+use Rattle.octets.specs.Words.{◌and◌}
 use Rattle.octets.specs.Bytes.{same}
 use Rattle.text.specs.Decimal.{is_number, is_signed}
 use Rattle.text.specs.Hex.{is_hex}

@@ -1,4 +1,5 @@
 -- What stands at the place of a key is the key's value, and its flag says whether the key is there.
+use Rattle.std.specs.Prelude.{if◌then◌else◌}
 use Prim.Native.Nat.{ℕ, zero, suc, ◌+◌, ◌-◌, ◌<◌}
 use mathlib.Core.Path.{◌≡◌, refl, ap, sym, ◌∙◌}
 use mathlib.Core.Bool.{Bool, true, false}
@@ -7,7 +8,7 @@ use native.Mathlib.Omega.{arith}
 use lib.ListN.{length, get_or, take, drop, length-drop}
 use lib.Seq.{drop-drop, take_all}
 use borrow.Author.Tests.{leb-true, leb-false}
-use Rattle.octets.specs.Words.{if◌then◌else◌, ◌or◌, ◌≤?◌}
+use Rattle.octets.specs.Words.{◌or◌, ◌≤?◌}
 use Rattle.octets.specs.Bytes.{same}
 use Rattle.names.specs.Reserved.{reserved_keys}
 use Rattle.names.proofs.Reserved.{counts}

@@ -1,4 +1,5 @@
 -- Gathering headers token by token comes to all tokens whose keys are not reserved, in order.
+use Rattle.std.specs.Prelude.{if◌then◌else◌}
 use Prim.Native.Nat.{ℕ, ◌+◌, ◌≤◌, ◌<◌}
 use mathlib.Core.Path.{◌≡◌, refl, ap, sym, ◌∙◌}
 use mathlib.Core.Bool.{Bool, true, false}
@@ -7,7 +8,7 @@ use native.Mathlib.Omega.{arith}
 use lib.ListN.{length, get_or, set, drop, replicate, length-append, length-map, length-replicate}
 use lib.Seq.{set_at}
 use borrow.Author.Tests.{le-leb, lt-leb, ltb-true, ltb-false}
-use Rattle.octets.specs.Words.{if◌then◌else◌, ◌and◌, ◌<?◌, ◌≤?◌, every}
+use Rattle.octets.specs.Words.{◌and◌, ◌<?◌, ◌≤?◌, every}
 use Rattle.octets.proofs.Lists.{drop-next}
 use Rattle.octets.proofs.Tests.{if_yes, if_no, and-not-left, and-not-right, and_both}
 use Rattle.names.specs.Reserved.{reserved}

@@ -1,4 +1,5 @@
 -- The pass over the words: what was kept of those behind, and the words from a place on, decide.
+use Rattle.std.specs.Prelude.{if◌then◌else◌}
 use Prim.Native.Nat.{ℕ, zero, suc, ◌+◌, ◌<◌}
 use mathlib.Core.Path.{◌≡◌, refl, ap, sym, ◌∙◌}
 use mathlib.Core.Bool.{Bool, true, false}
@@ -7,7 +8,7 @@ use native.Mathlib.Omega.{arith}
 use lib.ListN.{length, get_or, set, replicate, length-set, length-map, length-replicate, get_or-replicate, get_or-eq_default}
 use lib.Seq.{get_or-set_same, get_or-set_other, ext_get_or}
 use borrow.Author.Tests.{ltb-true, ltb-false, eqb-true, eqb-false}
-use Rattle.octets.specs.Words.{if◌then◌else◌, ◌and◌, ◌or◌, no, ◌=?◌, ◌<?◌, every, some}
+use Rattle.octets.specs.Words.{◌and◌, ◌or◌, no, ◌=?◌, ◌<?◌, every, some}
 use Rattle.octets.specs.Bytes.{same}
 use Rattle.octets.proofs.Lists.{same-eq, same_refl}
 use Rattle.octets.proofs.Tests.{if_yes, if_no, and_both, and-next, and-true, and-not-left, and-not-right, no_true, no_false, true-not-false}

@@ -1,6 +1,6 @@
 -- Document 01, "The ihave line": where the values of the reserved keys stand in the text of a line's tokens.
-use Rattle.std.specs.Prelude.{ℕ, ◌+◌, Bool, true, false, List, [], ◌∷◌, map, length, take, drop, replicate}
-use Rattle.octets.specs.Words.{if◌then◌else◌, ◌and◌, every}
+use Rattle.std.specs.Prelude.{ℕ, ◌+◌, Bool, true, false, List, [], ◌∷◌, map, length, take, drop, replicate, if◌then◌else◌}
+use Rattle.octets.specs.Words.{◌and◌, every}
 use Rattle.octets.specs.Bytes.{same}
 use Rattle.names.specs.Reserved.{reserved, reserved_keys, key_chk}
 use Rattle.headers.specs.Keys.{all_differ}

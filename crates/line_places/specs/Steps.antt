@@ -1,6 +1,6 @@
 -- Headers gathered token by token, as the pass goes; no public promise speaks of it.
-use Rattle.std.specs.Prelude.{Bool, true, false, List, [], ◌∷◌}
-use Rattle.octets.specs.Words.{if◌then◌else◌, ◌and◌, ◌<?◌}
+use Rattle.std.specs.Prelude.{Bool, true, false, List, [], ◌∷◌, if◌then◌else◌}
+use Rattle.octets.specs.Words.{◌and◌, ◌<?◌}
 use Rattle.names.specs.Reserved.{reserved}
 use Rattle.headers.specs.declared.Headers.{Headers}
 use Rattle.envelope.specs.Texts.{no_headers, with_header}

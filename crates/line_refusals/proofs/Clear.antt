@@ -1,10 +1,11 @@
 -- The writer's tests in their order, and what holds where none of them refuses.
+use Rattle.std.specs.Prelude.{if◌then◌else◌}
 use Prim.Native.Nat.{ℕ, ◌+◌, ◌≤◌, ◌<◌}
 use mathlib.Core.Path.{◌≡◌, refl, sym, ap, ◌∙◌}
 use mathlib.Core.Bool.{Bool, true, false, not}
 use native.Mathlib.Omega.{arith}
 use borrow.Author.Tests.{le-leb, lt-leb, leb-true, lt-ltb, le-ltb, ltb-false}
-use Rattle.octets.specs.Words.{if◌then◌else◌, no, ◌≤?◌, ◌<?◌}
+use Rattle.octets.specs.Words.{no, ◌≤?◌, ◌<?◌}
 use Rattle.octets.proofs.Tests.{and-next, and_right, and-not-left}
 use Rattle.refusals.specs.Numbers.{longest_payload}
 use Rattle.line_refusals.specs.Order.{refuses_reading, refuses_writing, line_good}

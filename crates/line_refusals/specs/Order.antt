@@ -1,6 +1,6 @@
 -- Document 01, "Numbers the node says no with": the refusals of a line in their order, the lowest first; 0 where none refuses.
-use Rattle.std.specs.Prelude.{ℕ, Bool}
-use Rattle.octets.specs.Words.{if◌then◌else◌, ◌and◌, no, ◌<?◌, ◌≤?◌}
+use Rattle.std.specs.Prelude.{ℕ, Bool, if◌then◌else◌}
+use Rattle.octets.specs.Words.{◌and◌, no, ◌<?◌, ◌≤?◌}
 use Rattle.refusals.specs.Numbers.{line_malformed, chk_differs, format_d, payload_too_long, longest_payload, buffer_too_short}
 
 -- a line that was read

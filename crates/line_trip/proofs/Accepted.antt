@@ -1,4 +1,5 @@
 -- THEOREMS: what was read from an accepted line is valid and tidy; so if it is written, it is read back as the same message.
+use Rattle.std.specs.Prelude.{if◌then◌else◌}
 use Prim.Native.Nat.{ℕ, zero, suc, ◌≤◌, ◌<◌, ◌-◌}
 use mathlib.Core.Path.{◌≡◌, refl, ap, sym, ◌∙◌}
 use mathlib.Core.Bool.{Bool, true, false}
@@ -10,7 +11,7 @@ use lib.IntN.{pos, neg_ℤ}
 use mir.Syntax.{w64}
 use mir.Val.{SFits}
 use borrow.Author.Tests.{leb-true, ltb-true, ltb-false}
-use Rattle.octets.specs.Words.{if◌then◌else◌, ◌and◌, no, ◌<?◌, ◌≤?◌}
+use Rattle.octets.specs.Words.{◌and◌, no, ◌<?◌, ◌≤?◌}
 use Rattle.octets.proofs.Tests.{and_left, and_right, if_yes}
 use Rattle.refusals.specs.Numbers.{line_malformed, chk_differs, format_d, payload_too_long, longest_payload}
 use Rattle.text.specs.Digits as digits

@@ -1,11 +1,12 @@
 -- Keys looked up among the tokens that are written: each choice says whether its key is there, and headers are passed by.
+use Rattle.std.specs.Prelude.{if◌then◌else◌}
 use Prim.Native.Nat.{ℕ, zero, suc, ◌<◌}
 use mathlib.Core.Path.{◌≡◌, refl, ap, sym, ◌∙◌}
 use mathlib.Core.Bool.{Bool, true, false}
 use mathlib.Core.List.{List, [], ◌∷◌, ◌++◌}
 use native.Mathlib.Omega.{arith}
 use lib.ListN.{length, get_or}
-use Rattle.octets.specs.Words.{if◌then◌else◌, ◌and◌, ◌or◌, no, every, some}
+use Rattle.octets.specs.Words.{◌and◌, ◌or◌, no, every, some}
 use Rattle.octets.specs.Bytes.{same}
 use Rattle.octets.proofs.Tests.{if_yes, if_no, and_left, and_right, and_both, or_left, or-next, true-not-false, no_false, or_no}
 use Rattle.octets.proofs.Lists.{same-eq}

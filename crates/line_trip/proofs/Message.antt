@@ -1,4 +1,5 @@
 -- The tokens of a message that is written: what each key is found to say among them, and that the rules of a line hold.
+use Rattle.std.specs.Prelude.{if◌then◌else◌}
 use Prim.Native.Nat.{ℕ, ◌-◌, ◌^◌, ◌<◌, ◌≤◌}
 use mathlib.Core.Path.{◌≡◌, refl, ap, sym, ◌∙◌}
 use mathlib.Core.Bool.{Bool, true, false}
@@ -10,7 +11,7 @@ use lib.IntN.{pos}
 use mir.Syntax.{w64}
 use mir.Val.{SFits}
 use borrow.Author.Tests.{le-leb, leb-true, le-ltb, eq-eqb}
-use Rattle.octets.specs.Words.{if◌then◌else◌, ◌and◌, ◌or◌, no, ◌≤?◌, ◌<?◌, every}
+use Rattle.octets.specs.Words.{◌and◌, ◌or◌, no, ◌≤?◌, ◌<?◌, every}
 use Rattle.octets.specs.Bytes.{same, front}
 use Rattle.octets.proofs.Tests.{if_yes, if_no, and_left, and_right, and_both, no_true, no_false, or_left}
 use Rattle.octets.proofs.Lists.{same_refl}

@@ -1,4 +1,5 @@
 -- Document 01, "The ihave line": a line with one byte of the covered part changed is never accepted with the same `chk`.
+use Rattle.std.specs.Prelude.{if◌then◌else◌}
 use Prim.Native.Nat.{ℕ, ◌-◌, ◌<◌}
 use mathlib.Core.Path.{◌≡◌, refl, ap, sym, ◌∙◌}
 use mathlib.Core.Bool.{Bool, true, false}
@@ -7,7 +8,7 @@ use native.Mathlib.Omega.{arith}
 use lib.ListN.{length, take, length-append}
 use lib.Seq.{take_at}
 use borrow.Author.Tests.{eq-eqb, eqb-true}
-use Rattle.octets.specs.Words.{if◌then◌else◌, ◌or◌, no, ◌<?◌, ◌=?◌, every}
+use Rattle.octets.specs.Words.{◌or◌, no, ◌<?◌, ◌=?◌, every}
 use Rattle.octets.specs.Bytes.{Bytes, same}
 use Rattle.octets.proofs.Tests.{if_yes, if_no, and_left, and_right, or-next, or_no, true-not-false}
 use Rattle.refusals.specs.Numbers.{line_malformed, chk_differs, format_d, payload_too_long, longest_payload}

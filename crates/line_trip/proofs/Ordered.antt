@@ -1,4 +1,5 @@
 -- THEOREM: an accepted line in the writer's order, with `chk`, is written again byte for byte.
+use Rattle.std.specs.Prelude.{if◌then◌else◌}
 use Prim.Native.Nat.{ℕ, suc, ◌-◌}
 use mathlib.Core.Path.{◌≡◌, refl, ap, sym, ◌∙◌}
 use mathlib.Core.Bool.{Bool, true, false}
@@ -7,7 +8,7 @@ use native.Mathlib.Omega.{arith}
 use lib.ListN.{length, take, drop, replicate, length-append, length-map}
 use lib.Seq.{take_at}
 use borrow.Author.Tests.{eqb-true}
-use Rattle.octets.specs.Words.{if◌then◌else◌, ◌and◌, ◌or◌, no, ◌=?◌, ◌≤?◌, every, some}
+use Rattle.octets.specs.Words.{◌and◌, ◌or◌, no, ◌=?◌, ◌≤?◌, every, some}
 use Rattle.octets.specs.Bytes.{same}
 use Rattle.octets.proofs.Lists.{same-eq, same_refl}
 use Rattle.octets.proofs.Tests.{and_left, and_right, if_yes, if_no, or_no, true-not-false}

@@ -1,12 +1,13 @@
 -- Document 01, "The ihave line": THE ROUND TRIP. What was written is accepted, with its `chk`, and says the message that was written:
 -- its fields up to their lengths and flags.
+use Rattle.std.specs.Prelude.{if◌then◌else◌}
 use Prim.Native.Nat.{ℕ, ◌≤◌}
 use mathlib.Core.Path.{◌≡◌, refl}
 use mathlib.Core.Bool.{Bool, true, false}
 use native.Mathlib.Omega.{arith}
 use borrow.Author.Tests.{ltb-false}
 use lib.ListN.{length}
-use Rattle.octets.specs.Words.{if◌then◌else◌, no, ◌<?◌}
+use Rattle.octets.specs.Words.{no, ◌<?◌}
 use Rattle.refusals.specs.Numbers.{line_malformed, payload_too_long, longest_payload, buffer_too_short}
 use Rattle.envelope.specs.Tidy.{tidy}
 use Rattle.line.specs.Reading.{Outcome, Read, read_of}

@@ -1,4 +1,5 @@
 -- Texts that may stand in a word of a line: well-formed UTF-8 of visible bytes. Digits, callsigns and destinations are such.
+use Rattle.std.specs.Prelude.{if◌then◌else◌}
 use Prim.Native.Nat.{ℕ, suc, ◌<◌, ◌≤◌, ◌-◌}
 use mathlib.Core.Path.{◌≡◌, refl}
 use mathlib.Core.Bool.{Bool, true, false}
@@ -7,7 +8,7 @@ use native.Mathlib.Omega.{arith}
 use borrow.Author.Tests.{ne_eqb, ltb-true, eqb-true}
 use lib.ListN.{length}
 use lib.IntN.{ℤ, pos, negsuc}
-use Rattle.octets.specs.Words.{if◌then◌else◌, ◌and◌, ◌or◌, no, ◌≤?◌, ◌=?◌, between, every, some}
+use Rattle.octets.specs.Words.{◌and◌, ◌or◌, no, ◌≤?◌, ◌=?◌, between, every, some}
 use Rattle.octets.proofs.Tests.{and_left, and_right, and_both, or_left, true-not-false, inside, inside-low, inside-high, no_false}
 use Rattle.utf8.specs.Utf8.{Range, Row, holds, rows, run, utf8}
 use Rattle.text.specs.Digits.{worth, is_digit}

@@ -1,4 +1,5 @@
 -- A valid message tidied is a valid message.
+use Rattle.std.specs.Prelude.{if◌then◌else◌}
 use Prim.Native.Nat.{ℕ, ◌≤◌}
 use mathlib.Core.Path.{◌≡◌, refl, ap, ◌∙◌}
 use mathlib.Core.Bool.{Bool, true, false}
@@ -7,7 +8,7 @@ use native.Mathlib.Omega.{arith}
 use lib.ListN.{length, take, drop, replicate, length-map}
 use lib.Seq.{take_at, length-take-le}
 use borrow.Author.Tests.{le-leb, leb-true}
-use Rattle.octets.specs.Words.{if◌then◌else◌, ◌≤?◌, every}
+use Rattle.octets.specs.Words.{◌≤?◌, every}
 use Rattle.octets.specs.Bytes.{front}
 use Rattle.octets.proofs.Tests.{if_yes, and_left, and_right, and_both}
 use Rattle.callsigns.specs.Callsign.{callsign}

@@ -1,4 +1,5 @@
 -- The values that are written are read back, and the fields tidied are what is read.
+use Rattle.std.specs.Prelude.{if◌then◌else◌}
 use Prim.Native.Nat.{ℕ, ◌^◌, ◌≤◌}
 use mathlib.Core.Path.{◌≡◌, refl, ap, sym, ◌∙◌}
 use mathlib.Core.Bool.{Bool, true, false}
@@ -8,7 +9,7 @@ use lib.IntN.{ℤ}
 use mir.Syntax.{w64}
 use mir.Val.{SFits}
 use borrow.Author.Tests.{ltb-true}
-use Rattle.octets.specs.Words.{if◌then◌else◌, between, every}
+use Rattle.octets.specs.Words.{between, every}
 use Rattle.octets.proofs.Tests.{and_left, and_right, and_both, if_yes, if_no, inside-high}
 use Rattle.text.specs.Digits as numerals
 use Rattle.text.specs.Decimal.{number, is_number, decimal, signed, is_signed, signed_decimal, count}

@@ -1,7 +1,8 @@
 -- A reading that answers whether a text is good, and what it says.
+use Rattle.std.specs.Prelude.{if◌then◌else◌}
 use mathlib.Core.Path.{◌≡◌, refl, ap, sym, ◌∙◌}
 use mathlib.Core.Bool.{Bool, true, false}
-use Rattle.octets.specs.Words.{if◌then◌else◌}
+
 use Rattle.octets.proofs.Tests.{if_yes}
 
 -- a function of a choice is a choice

@@ -1,10 +1,11 @@
 -- Single values: what the readers of `text` find, as this crate answers it.
+use Rattle.std.specs.Prelude.{if◌then◌else◌}
 use Prim.Native.Nat.{ℕ, ◌≤◌}
 use mathlib.Core.Path.{◌≡◌, refl, ap, sym, ◌∙◌}
 use mathlib.Core.Bool.{Bool, true, false}
 use mathlib.Core.List.{List, []}
 use lib.IntN.{pos}
-use Rattle.octets.specs.Words.{if◌then◌else◌}
+
 use Rattle.octets.proofs.Tests.{if_yes, if_no, and_both, and-not-left, and-not-right}
 use Rattle.text.specs.Digits as digits
 use Rattle.text.specs.Decimal.{is_number, number, number_of, is_signed, signed, signed_of}

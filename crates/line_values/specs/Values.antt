@@ -1,6 +1,6 @@
 -- Document 01, "Names and fields": the values of a line's keys. Each reading answers whether a text is good, and what it says.
-use Rattle.std.specs.Prelude.{ℕ, Bool, true, false, List, [], pos}
-use Rattle.octets.specs.Words.{if◌then◌else◌, ◌and◌}
+use Rattle.std.specs.Prelude.{ℕ, Bool, true, false, List, [], pos, if◌then◌else◌}
+use Rattle.octets.specs.Words.{◌and◌}
 use Rattle.text.specs.Decimal.{is_number, number, is_signed, signed}
 use Rattle.text.specs.Hex.{is_hex, hex_value}
 use Rattle.tokens.specs.Cuts.{has, before, after}

@@ -1,6 +1,6 @@
 -- Document 01, "The ihave line": what may stand behind the words of a line, and which keys come together.
-use Rattle.std.specs.Prelude.{ℕ, Bool}
-use Rattle.octets.specs.Words.{if◌then◌else◌, ◌and◌, ◌or◌, no, ◌<?◌, ◌≤?◌, ◌=?◌}
+use Rattle.std.specs.Prelude.{ℕ, Bool, if◌then◌else◌}
+use Rattle.octets.specs.Words.{◌and◌, ◌or◌, no, ◌<?◌, ◌≤?◌, ◌=?◌}
 
 -- `chk`, if present, is last; every word has its `=`: not all of its bytes stand before one
 abbrev pub may_stand : Bool → ℕ → ℕ → Bool

@@ -1,6 +1,6 @@
 -- Document 01, "Streams": what stands for a key, and the refusals that go before a row's own.
-use Rattle.std.specs.Prelude.{ℕ, Bool}
-use Rattle.octets.specs.Words.{if◌then◌else◌, no, ◌<?◌}
+use Rattle.std.specs.Prelude.{ℕ, Bool, if◌then◌else◌}
+use Rattle.octets.specs.Words.{no, ◌<?◌}
 use Rattle.refusals.specs.Numbers.{state_broken, stale, no_free_row, no_such_stream}
 use Rattle.lookups.specs.declared.Lookup.{Lookup}
 use Rattle.lookups.specs.declared.Target.{Target}

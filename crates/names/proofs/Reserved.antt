@@ -1,4 +1,5 @@
 -- The reserved keys: the table as the code has it spells them, and a loop over it looks for one.
+use Rattle.std.specs.Prelude.{if◌then◌else◌}
 use Prim.Native.Nat.{ℕ, zero, suc, ◌+◌, ◌≤◌, ◌<◌}
 use mathlib.Core.Path.{◌≡◌, refl, ap, sym, ◌∙◌}
 use mathlib.Core.Bool.{Bool, true, false}
@@ -8,7 +9,7 @@ use borrow.Author.Tests.{leb-true, lt-ltb}
 use lib.ListN.{length, get_or, drop, get_or-map}
 use lib.Seq.{drop-length}
 use lib.Dec.{leb-suc-suc}
-use Rattle.octets.specs.Words.{if◌then◌else◌, ◌or◌, ◌<?◌, ◌≤?◌, every, some}
+use Rattle.octets.specs.Words.{◌or◌, ◌<?◌, ◌≤?◌, every, some}
 use Rattle.octets.specs.Bytes.{same}
 use Rattle.octets.proofs.Lists.{drop-next, every-at, same-eq}
 use Rattle.octets.proofs.Tests.{if_yes, if_no}

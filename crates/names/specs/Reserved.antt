@@ -1,6 +1,6 @@
 -- Document 01, "Names and fields": the thirteen reserved keys.
-use Rattle.std.specs.Prelude.{ℕ, suc, Bool, List, [], ◌∷◌, take}
-use Rattle.octets.specs.Words.{if◌then◌else◌, some}
+use Rattle.std.specs.Prelude.{ℕ, suc, Bool, List, [], ◌∷◌, take, if◌then◌else◌}
+use Rattle.octets.specs.Words.{some}
 use Rattle.octets.specs.Bytes.{same}
 use Rattle.names.specs.declared.Word.{Word}
 

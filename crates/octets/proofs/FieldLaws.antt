@@ -1,5 +1,6 @@
 -- The laws of a field, for each way of making one: what is written is read back, what is read is what would be written, and a read
 -- takes no more than there is.
+use Rattle.std.specs.Prelude.{if◌then◌else◌}
 use Prim.Native.Nat.{ℕ, zero, suc, ◌+◌, ◌^◌, ◌<◌, ◌≤◌}
 use mathlib.Core.Path.{◌≡◌, refl, ap, sym, ◌∙◌}
 use mathlib.Core.List.{List, [], ◌∷◌, ◌++◌, append_assoc, map}
@@ -12,7 +13,7 @@ use mir.Syntax.{w64}
 use mir.Val.{Fits}
 use mir.ValLaws.{of_z-to_z, to_z-Fits}
 use borrow.Author.Tests.{ltb-true, leb-true, eqb-true, lt-ltb, le-leb, lt-leb, eq-eqb}
-use Rattle.octets.specs.Words.{if◌then◌else◌, ◌and◌, every, ◌≤?◌, ◌=?◌, ◌<?◌}
+use Rattle.octets.specs.Words.{◌and◌, every, ◌≤?◌, ◌=?◌, ◌<?◌}
 use Rattle.octets.specs.Bytes.{Bytes}
 use Rattle.octets.specs.Numbers.{little, little_bytes, twos, from_twos}
 use Rattle.octets.specs.Field.{Res, bad, got, bind, Field, num, raw, only, when, seq, tagged, through, many_parse, many_print, many, signed_num}

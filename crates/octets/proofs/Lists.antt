@@ -1,4 +1,5 @@
 -- Lists that a loop goes through: the rest decides. Each law is over the element.
+use Rattle.std.specs.Prelude.{if◌then◌else◌}
 use mathlib.Core.Path.{◌≡◌, refl, ap, sym, ◌∙◌}
 use mathlib.Core.Bool.{Bool, true, false}
 use mathlib.Core.List.{List, [], ◌∷◌, ◌++◌, append_assoc, map}
@@ -8,7 +9,7 @@ use native.Mathlib.Numerals.{add-one}
 use lib.ListN.{length, get_or, take, drop, set, length-append, length-drop, length-take, length-set, length-map, take-append-drop}
 use lib.Seq.{drop-cons, drop-length, drop-set-lt, take-suc-set}
 use borrow.Author.Tests.{le-leb, lt-leb, leb-true, eq-eqb, ne_eqb, eqb-true}
-use Rattle.octets.specs.Words.{if◌then◌else◌, ◌and◌, every, some, ◌=?◌}
+use Rattle.octets.specs.Words.{◌and◌, every, some, ◌=?◌}
 use Rattle.octets.specs.Bytes.{same, fits, placed}
 use Rattle.octets.proofs.Tests.{if_yes, if_no, and_left, and_right, and-next, and-not-left, true-not-false}
 

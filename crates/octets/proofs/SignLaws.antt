@@ -1,4 +1,5 @@
 -- Two's complement: what the two halves of the code's conversions say.
+use Rattle.std.specs.Prelude.{if◌then◌else◌}
 use Prim.Native.Nat.{ℕ, zero, suc, ◌-◌, ◌^◌, ◌<◌, ◌≤◌}
 use mathlib.Core.Path.{◌≡◌, refl, ap, ◌∙◌}
 use mathlib.Core.Bool.{Bool, true, false}
@@ -9,7 +10,7 @@ use borrow.Author.Tests.{le-ltb, leb-false}
 use mir.Syntax.{w64}
 use mir.Val.{Fits, SFits, of_z, to_z, sel}
 use mir.ValLaws.{to_z-of_z, of_z_fits, to_z_pos, to_z-Fits}
-use Rattle.octets.specs.Words.{if◌then◌else◌, ◌<?◌}
+use Rattle.octets.specs.Words.{◌<?◌}
 use Rattle.octets.specs.Numbers.{twos, from_twos}
 
 -- the kit's own words for the bits of a signed number and the signed number of the bits, and that the definitions' two cases say the same

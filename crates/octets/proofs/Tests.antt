@@ -1,10 +1,11 @@
 -- Tests: what a choice comes to where its test is known, and what `and`, `or` and `no` say of their parts.
+use Rattle.std.specs.Prelude.{if◌then◌else◌}
 use mathlib.Core.Path.{◌≡◌, refl}
 use mathlib.Core.Bool.{Bool, true, false}
 use Prim.Native.Nat.{ℕ, ◌≤◌, ◌<◌}
 use native.Mathlib.Omega.{arith}
 use borrow.Author.Tests.{le-leb, lt-leb, leb-true}
-use Rattle.octets.specs.Words.{if◌then◌else◌, ◌and◌, ◌or◌, no, between, ◌≤?◌}
+use Rattle.octets.specs.Words.{◌and◌, ◌or◌, no, between, ◌≤?◌}
 
 pub if_yes : {A : Type 0} (t : Bool) (a b : A) → t ≡ true → (if t then a else b) ≡ a
 if_yes t a b e = rw e

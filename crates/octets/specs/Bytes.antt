@@ -1,6 +1,6 @@
 -- Lists of bytes: when two are the same, and what a lent buffer holds after bytes were written into it.
-use Rattle.std.specs.Prelude.{ℕ, ◌+◌, ◌<◌, Bool, true, false, List, [], ◌∷◌, ◌++◌, length, take, drop, get_or}
-use Rattle.octets.specs.Words.{if◌then◌else◌, ◌and◌, every, ◌≤?◌, ◌=?◌}
+use Rattle.std.specs.Prelude.{ℕ, ◌+◌, ◌<◌, Bool, true, false, List, [], ◌∷◌, ◌++◌, length, take, drop, get_or, if◌then◌else◌}
+use Rattle.octets.specs.Words.{◌and◌, every, ◌≤?◌, ◌=?◌}
 
 -- every number of the list is a byte
 abbrev pub Bytes : List ℕ → Type 0

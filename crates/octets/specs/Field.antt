@@ -1,8 +1,8 @@
 -- A field of a binary format: how it is read from the front of a list of bytes, how it is written, which values it may hold, and
 -- what of a value counts. A format is put together from fields; its reader, its writer and its rules then come from one text.
-use Rattle.std.specs.Prelude.{ℕ, zero, suc, ◌+◌, ◌^◌, List, [], ◌∷◌, ◌++◌, map, Bool, true, false, length, take, drop, ℤ}
+use Rattle.std.specs.Prelude.{ℕ, zero, suc, ◌+◌, ◌^◌, List, [], ◌∷◌, ◌++◌, map, Bool, true, false, length, take, drop, ℤ, if◌then◌else◌}
 use Rattle.std.specs.Int.Signed.{mag}
-use Rattle.octets.specs.Words.{if◌then◌else◌, ◌and◌, every, ◌<?◌, ◌≤?◌, ◌=?◌}
+use Rattle.octets.specs.Words.{◌and◌, every, ◌<?◌, ◌≤?◌, ◌=?◌}
 use Rattle.octets.specs.Numbers.{little, little_bytes, twos, from_twos}
 
 -- what reading finds: a value with the number of bytes that it took, or nothing

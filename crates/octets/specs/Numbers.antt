@@ -1,6 +1,6 @@
 -- Little-endian numbers: the number that bytes spell, and the bytes of a number, at every width.
-use Rattle.std.specs.Prelude.{ℕ, zero, suc, ◌+◌, ◌-◌, ◌*◌, ◌/◌, ◌%◌, ◌^◌, List, [], ◌∷◌, ℤ, pos, negsuc}
-use Rattle.octets.specs.Words.{if◌then◌else◌, ◌<?◌}
+use Rattle.std.specs.Prelude.{ℕ, zero, suc, ◌+◌, ◌-◌, ◌*◌, ◌/◌, ◌%◌, ◌^◌, List, [], ◌∷◌, ℤ, pos, negsuc, if◌then◌else◌}
+use Rattle.octets.specs.Words.{◌<?◌}
 
 -- the number that the bytes spell, the lowest byte first
 unfoldable pub little : List ℕ → ℕ

@@ -6,11 +6,6 @@ infixr 25 ◌or◌
 infix 40 ◌<?◌
 infix 40 ◌≤?◌
 infix 40 ◌=?◌
-infix 10 if◌then◌else◌
-abbrev pub if◌then◌else◌ : {A : Type 0} → Bool → A → A → A
-if true then a else b = a
-if false then a else b = b
-
 abbrev pub ◌and◌ : Bool → Bool → Bool
 true and b = b
 false and b = false

@@ -1,6 +1,6 @@
 -- Document 01, "The receiving session": what a peer's line is.
-use Rattle.std.specs.Prelude.{ℕ, ◌+◌, Bool, List, [], ◌∷◌, ◌++◌, map, length, take}
-use Rattle.octets.specs.Words.{if◌then◌else◌, ◌or◌, some, between}
+use Rattle.std.specs.Prelude.{ℕ, ◌+◌, Bool, List, [], ◌∷◌, ◌++◌, map, length, take, if◌then◌else◌}
+use Rattle.octets.specs.Words.{◌or◌, some, between}
 use Rattle.octets.specs.Bytes.{same}
 use Rattle.text.specs.Hex.{hex_digits}
 pub use Rattle.tokens.specs.Tokens.{ihave}

@@ -1,4 +1,5 @@
 -- The sixteen places and the list in them: what a turn of each loop comes to, and how a list stands in its places.
+use Rattle.std.specs.Prelude.{if◌then◌else◌}
 use mathlib.Core.Path.{◌≡◌, refl, sym, ap, ◌∙◌, subst}
 use Prim.Native.Nat.{ℕ, zero, suc, ◌+◌, ◌-◌, ◌≤◌, ◌<◌, min}
 use native.Mathlib.Omega.{arith}
@@ -10,7 +11,7 @@ use lib.ListN.{length, get_or, set, take, drop, length-append, length-drop, take
 use lib.Seq.{take-append-le, drop-append-le, drop-drop, take-suc-set, drop-set-lt, drop-cons, append_snoc, length-take-le, take_all, take_at, set_split, get_or-take}
 use lib.Bits.{bit_or}
 use borrow.Author.Tests.{eqb-true}
-use Rattle.octets.specs.Words.{if◌then◌else◌, ◌and◌, every, ◌<?◌, ◌=?◌}
+use Rattle.octets.specs.Words.{◌and◌, every, ◌<?◌, ◌=?◌}
 use Rattle.octets.proofs.Tests.{and_left, and_right, and_both}
 use Rattle.octets.proofs.Lists.{drop-next}
 use Rattle.lengths.proofs.Zeros.{or-zero}

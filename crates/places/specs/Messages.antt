@@ -1,6 +1,6 @@
 -- Document 01, "Streams": the messages that a row holds, in ascending number, and the gap before them.
-use Rattle.std.specs.Prelude.{ℕ, ◌+◌, Bool, true, false, List, [], ◌∷◌}
-use Rattle.octets.specs.Words.{if◌then◌else◌, ◌and◌, some, ◌<?◌, ◌≤?◌, ◌=?◌}
+use Rattle.std.specs.Prelude.{ℕ, ◌+◌, Bool, true, false, List, [], ◌∷◌, if◌then◌else◌}
+use Rattle.octets.specs.Words.{◌and◌, some, ◌<?◌, ◌≤?◌, ◌=?◌}
 use Rattle.places.specs.declared.Held.{Held}
 
 -- ---- the held messages

@@ -1,6 +1,6 @@
 -- Sixteen places: the messages stand in the first of them, and the places past them are all zero.
-use Rattle.std.specs.Prelude.{ℕ, ◌+◌, ◌-◌, Bool, List, [], ◌∷◌, ◌++◌, length, replicate}
-use Rattle.octets.specs.Words.{if◌then◌else◌, ◌and◌, ◌<?◌, ◌=?◌}
+use Rattle.std.specs.Prelude.{ℕ, ◌+◌, ◌-◌, Bool, List, [], ◌∷◌, ◌++◌, length, replicate, if◌then◌else◌}
+use Rattle.octets.specs.Words.{◌and◌, ◌<?◌, ◌=?◌}
 use Rattle.places.specs.declared.Held.{Held}
 
 -- an empty place

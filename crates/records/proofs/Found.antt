@@ -1,4 +1,5 @@
 -- What the steps of the reader come to: each part that was found, and each that was not.
+use Rattle.std.specs.Prelude.{if◌then◌else◌}
 use Prim.Native.Nat.{ℕ, ◌+◌, ◌-◌, ◌<◌, ◌≤◌}
 use native.Mathlib.Omega.{arith}
 use mathlib.Core.Path.{◌≡◌, refl, sym, ap, ◌∙◌, subst}
@@ -7,7 +8,7 @@ use mathlib.Core.List.{List, ◌++◌}
 use lib.ListN.{length, take, drop, set, replicate, length-drop, take-append-drop}
 use lib.Seq.{take_all, drop-append_seam, drop-drop, length-take-le}
 use borrow.Author.Tests.{le-leb, lt-leb, leb-true, eq-eqb}
-use Rattle.octets.specs.Words.{if◌then◌else◌, ◌and◌, no, every, ◌≤?◌}
+use Rattle.octets.specs.Words.{◌and◌, no, every, ◌≤?◌}
 use Rattle.octets.specs.Field.{Res, bad, got, bind, num, many_parse}
 use Rattle.octets.specs.Reading.{read8, read32, read64}
 use Rattle.octets.specs.declared.Read8.{Read8}

@@ -1,4 +1,5 @@
 -- Parts that are placed one behind the other in a buffer.
+use Rattle.std.specs.Prelude.{if◌then◌else◌}
 use mathlib.Core.Path.{◌≡◌, refl, sym, ap, ◌∙◌, subst}
 use Prim.Native.Nat.{ℕ, ◌+◌, ◌-◌, ◌≤◌, ◌<◌}
 use native.Mathlib.Omega.{arith}
@@ -7,7 +8,7 @@ use mathlib.Core.List.{List, [], ◌∷◌, ◌++◌, append_assoc}
 use lib.ListN.{length, drop, length-append, length-drop}
 use lib.Seq.{length-take-le}
 use borrow.Author.Tests.{le-leb, lt-leb}
-use Rattle.octets.specs.Words.{if◌then◌else◌}
+
 use Rattle.octets.specs.Bytes.{fits, placed}
 use Rattle.octets.proofs.Tests.{if_yes, if_no}
 use Rattle.octets.proofs.Lists.{placed-none, placed-append, placed-out}

@@ -1,6 +1,6 @@
 -- Document 01, "The receiving session": what is said to the peer, LF included.
-use Rattle.std.specs.Prelude.{ℕ, Bool, List, [], ◌∷◌, ◌++◌, length, drop}
-use Rattle.octets.specs.Words.{if◌then◌else◌, ◌and◌, every, between}
+use Rattle.std.specs.Prelude.{ℕ, Bool, List, [], ◌∷◌, ◌++◌, length, drop, if◌then◌else◌}
+use Rattle.octets.specs.Words.{◌and◌, every, between}
 use Rattle.octets.specs.Bytes.{fits}
 use Rattle.text.specs.Hex.{hex_digits}
 use Rattle.tokens.specs.Cuts.{before}

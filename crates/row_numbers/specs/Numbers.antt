@@ -1,6 +1,6 @@
 -- Document 01, "Streams": what a row's rules and calls come to in numbers alone.
-use Rattle.std.specs.Prelude.{ℕ, ◌-◌, Bool}
-use Rattle.octets.specs.Words.{if◌then◌else◌, ◌and◌, ◌or◌, no, between, ◌<?◌, ◌≤?◌, ◌=?◌}
+use Rattle.std.specs.Prelude.{ℕ, ◌-◌, Bool, if◌then◌else◌}
+use Rattle.octets.specs.Words.{◌and◌, ◌or◌, no, between, ◌<?◌, ◌≤?◌, ◌=?◌}
 use Rattle.refusals.specs.Numbers.{state_broken, stale, already_held, row_full}
 
 -- how many of n ascending messages stand above expected, by whether the gap before them is open

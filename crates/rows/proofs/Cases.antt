@@ -1,10 +1,11 @@
 -- The calls by their cases: what holds of each outcome that document 01 names holds of the call.
+use Rattle.std.specs.Prelude.{if◌then◌else◌}
 use mathlib.Core.Path.{◌≡◌, refl}
 use Prim.Native.Nat.{ℕ, ◌≤◌, max}
 use mathlib.Core.Bool.{Bool, true, false}
 use mathlib.Core.List.{List, [], ◌∷◌}
 use borrow.Author.Tests.{ltb-false}
-use Rattle.octets.specs.Words.{if◌then◌else◌, ◌<?◌}
+use Rattle.octets.specs.Words.{◌<?◌}
 use Rattle.refusals.specs.Numbers.{stale, already_held, row_full}
 use Rattle.places.specs.declared.Held.{Held}
 use Rattle.rows.specs.Answer.{Outcome, refuse}

@@ -1,4 +1,5 @@
 -- THEOREM: a call on a row that keeps the rules returns one that keeps them, whatever 32-bit numbers it is given.
+use Rattle.std.specs.Prelude.{if◌then◌else◌}
 use mathlib.Core.Path.{◌≡◌, refl, sym, ap, ◌∙◌, subst}
 use Prim.Native.Nat.{ℕ, suc, ◌+◌, ◌≤◌, ◌<◌, max}
 use native.Mathlib.Omega.{arith}
@@ -6,7 +7,7 @@ use mathlib.Core.Bool.{Bool, true, false}
 use mathlib.Core.List.{List, [], ◌∷◌}
 use lib.ListN.{length}
 use borrow.Author.Tests.{le-leb, leb-false, ltb-true, ltb-false, eqb-false}
-use Rattle.octets.specs.Words.{if◌then◌else◌, ◌and◌, ◌or◌, every, ◌<?◌, ◌≤?◌, ◌=?◌}
+use Rattle.octets.specs.Words.{◌and◌, ◌or◌, every, ◌<?◌, ◌≤?◌, ◌=?◌}
 use Rattle.octets.proofs.Tests.{and_left, and_right, and_both, and-next, true-not-false}
 use Rattle.places.specs.declared.Held.{Held}
 use Rattle.rows.specs.declared.Row.{Row}

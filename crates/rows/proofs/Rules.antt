@@ -1,4 +1,5 @@
 -- What the rules of a row come to, part by part, and that a row is the packing of the stream that it stands for.
+use Rattle.std.specs.Prelude.{if◌then◌else◌}
 use mathlib.Core.Path.{◌≡◌, refl, sym, ap, ◌∙◌}
 use Prim.Native.Nat.{ℕ, suc, ◌+◌, ◌-◌, ◌≤◌, ◌<◌}
 use native.Mathlib.Omega.{arith}
@@ -7,7 +8,7 @@ use mathlib.Core.List.{List, [], ◌∷◌}
 use lib.ListN.{length, drop, replicate}
 use lib.Seq.{take-append_seam, drop-append_seam}
 use borrow.Author.Tests.{eq-eqb, le-leb, leb-true, leb-false, lt-ltb, ltb-true, ltb-false, eqb-true, eqb-false}
-use Rattle.octets.specs.Words.{if◌then◌else◌, ◌and◌, ◌or◌, every, between, ◌<?◌, ◌≤?◌, ◌=?◌}
+use Rattle.octets.specs.Words.{◌and◌, ◌or◌, every, between, ◌<?◌, ◌≤?◌, ◌=?◌}
 use Rattle.octets.proofs.Tests.{and_left, and_right, and_both, and-not-left, and-not-right, and-next, and-true, inside, inside-low, inside-high, true-not-false}
 use Rattle.places.specs.declared.Held.{Held}
 use Rattle.rows.specs.declared.Row.{Row}

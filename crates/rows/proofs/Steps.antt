@@ -1,4 +1,5 @@
 -- What the code makes of a row that keeps its rules is what document 01 says of the stream, packed. Over plain values.
+use Rattle.std.specs.Prelude.{if◌then◌else◌}
 use mathlib.Core.Path.{◌≡◌, refl, sym, ap, ◌∙◌}
 use Prim.Native.Nat.{ℕ, zero, suc, ◌+◌, ◌-◌, ◌<◌, ◌≤◌, max}
 use native.Mathlib.Omega.{arith}
@@ -7,7 +8,7 @@ use mathlib.Core.List.{List, [], ◌∷◌, ◌++◌}
 use lib.ListN.{length, get_or, take, drop}
 use lib.Seq.{length-take-le}
 use borrow.Author.Tests.{lt-ltb, le-ltb, ltb-false}
-use Rattle.octets.specs.Words.{if◌then◌else◌, ◌and◌, ◌<?◌, ◌≤?◌}
+use Rattle.octets.specs.Words.{◌and◌, ◌<?◌, ◌≤?◌}
 use Rattle.octets.proofs.Tests.{if_yes, if_no, and-next, and-not-left, true-not-false}
 use Rattle.refusals.specs.Numbers.{stale, already_held, row_full}
 use Rattle.row_numbers.specs.Numbers.{refuses_offer, due_by}

@@ -1,7 +1,7 @@
 -- A row as the code has it: the held messages stand in sixteen places, the first `count` of them, and the places past the count are all zero.
-use Rattle.std.specs.Prelude.{ℕ, Bool, List, length, drop, replicate}
+use Rattle.std.specs.Prelude.{ℕ, Bool, List, length, drop, replicate, if◌then◌else◌}
 use Rattle.std.proofs.Math.ListN as list
-use Rattle.octets.specs.Words.{if◌then◌else◌, ◌and◌, every, ◌≤?◌, ◌=?◌}
+use Rattle.octets.specs.Words.{◌and◌, every, ◌≤?◌, ◌=?◌}
 use Rattle.refusals.specs.Numbers.{state_broken}
 use Rattle.places.specs.declared.Held.{Held}
 pub use Rattle.places.specs.Places.{blank, is_blank, places}

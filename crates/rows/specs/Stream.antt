@@ -1,6 +1,6 @@
 -- Document 01, "Streams": a row as the paper has it, with the list of its held messages; the rules that it keeps, and its three calls.
-use Rattle.std.specs.Prelude.{ℕ, ◌+◌, max, Bool, List, [], ◌∷◌}
-use Rattle.octets.specs.Words.{if◌then◌else◌, ◌and◌, every, between, ◌<?◌, ◌≤?◌}
+use Rattle.std.specs.Prelude.{ℕ, ◌+◌, max, Bool, List, [], ◌∷◌, if◌then◌else◌}
+use Rattle.octets.specs.Words.{◌and◌, every, between, ◌<?◌, ◌≤?◌}
 use Rattle.refusals.specs.Numbers.{stale, already_held, row_full}
 use Rattle.row_numbers.specs.Numbers.{timed_by, start_after, is_due}
 use Rattle.places.specs.declared.Held.{Held}

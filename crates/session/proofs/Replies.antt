@@ -1,4 +1,5 @@
 -- No reply is longer than 24 bytes; a reply that fits stands at the front of its buffer.
+use Rattle.std.specs.Prelude.{if◌then◌else◌}
 use mathlib.Core.Path.{◌≡◌, refl, ap, ◌∙◌}
 use Prim.Native.Nat.{ℕ, ◌+◌, ◌≤◌}
 use native.Mathlib.Omega.{arith}
@@ -6,7 +7,7 @@ use mathlib.Core.Bool.{Bool, true, false}
 use mathlib.Core.List.{List, [], ◌∷◌, ◌++◌}
 use lib.ListN.{length, drop, length-append}
 use borrow.Author.Tests.{le-leb}
-use Rattle.octets.specs.Words.{if◌then◌else◌, ◌and◌, ◌<?◌, ◌=?◌}
+use Rattle.octets.specs.Words.{◌and◌, ◌<?◌, ◌=?◌}
 use Rattle.octets.specs.Bytes.{front, placed}
 use Rattle.octets.proofs.Tests.{if_yes, and_left, inside-high}
 use Rattle.octets.proofs.Lists.{placed-in}

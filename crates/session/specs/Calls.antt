@@ -1,6 +1,6 @@
 -- Document 01, "The receiving session": the two calls, with their refusals: 40, 22, 5.
-use Rattle.std.specs.Prelude.{ℕ, List, [], length, take}
-use Rattle.octets.specs.Words.{if◌then◌else◌, ◌<?◌, ◌=?◌}
+use Rattle.std.specs.Prelude.{ℕ, List, [], length, take, if◌then◌else◌}
+use Rattle.octets.specs.Words.{◌<?◌, ◌=?◌}
 use Rattle.octets.specs.Bytes.{placed}
 use Rattle.refusals.specs.Numbers.{buffer_too_short}
 use Rattle.replies.specs.Replies.{prompt}

@@ -1,6 +1,6 @@
 -- Document 01, "The receiving session": what one byte from the peer does.
-use Rattle.std.specs.Prelude.{ℕ, ◌+◌, [], set}
-use Rattle.octets.specs.Words.{if◌then◌else◌, ◌<?◌, ◌=?◌}
+use Rattle.std.specs.Prelude.{ℕ, ◌+◌, [], set, if◌then◌else◌}
+use Rattle.octets.specs.Words.{◌<?◌, ◌=?◌}
 use Rattle.sha1_digest.specs.Machine.{fed}
 use Rattle.machine.specs.Machine.{Fed, quiet, stop}
 use Rattle.talk.specs.declared.Session.{Session}

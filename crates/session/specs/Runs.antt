@@ -1,6 +1,6 @@
 -- What the private functions promise one another. No function's public promise cites this file.
-use Rattle.std.specs.Prelude.{◌≡◌, ℕ, List, []}
-use Rattle.octets.specs.Words.{if◌then◌else◌, ◌=?◌}
+use Rattle.std.specs.Prelude.{◌≡◌, ℕ, List, [], if◌then◌else◌}
+use Rattle.octets.specs.Words.{◌=?◌}
 use Rattle.octets.specs.Bytes.{placed}
 use Rattle.line.specs.Reading.{blank_line}
 use Rattle.replies.specs.Replies.{wrote}

@@ -1,4 +1,5 @@
 -- The rules of a session, test by test; the number of a refusal.
+use Rattle.std.specs.Prelude.{if◌then◌else◌}
 use mathlib.Core.Path.{◌≡◌, refl, sym, ap, ◌∙◌}
 use Prim.Native.Nat.{ℕ, ◌≤◌, ◌<◌}
 use native.Mathlib.Omega.{arith}
@@ -7,7 +8,7 @@ use mathlib.Core.Bool.{Bool, true, false}
 use mathlib.Core.List.{List, [], ◌∷◌}
 use lib.ListN.{length, drop, replicate}
 use borrow.Author.Tests.{eq-eqb, ne_eqb, lt-ltb, le-ltb, le-leb, lt-leb, eqb-true, eqb-false, ltb-true, ltb-false, leb-true}
-use Rattle.octets.specs.Words.{if◌then◌else◌, ◌and◌, ◌or◌, ◌<?◌, ◌≤?◌, ◌=?◌}
+use Rattle.octets.specs.Words.{◌and◌, ◌or◌, ◌<?◌, ◌≤?◌, ◌=?◌}
 use Rattle.octets.specs.Words as words
 use Rattle.octets.specs.Bytes.{all_zero}
 use Rattle.octets.proofs.Tests.{if_yes, if_no, and_left, and_right, and_both, and-next, and-not-left, and-not-right, or_no, no_true, no_false}

@@ -1,6 +1,6 @@
 -- Document 01, "Numbers the node says no with", 40, 22 and 5: the rules of a session, and what a call tests before it feeds a piece.
-use Rattle.std.specs.Prelude.{ℕ, Bool, List, length, drop}
-use Rattle.octets.specs.Words.{if◌then◌else◌, ◌and◌, ◌or◌, no, ◌<?◌, ◌≤?◌, ◌=?◌}
+use Rattle.std.specs.Prelude.{ℕ, Bool, List, length, drop, if◌then◌else◌}
+use Rattle.octets.specs.Words.{◌and◌, ◌or◌, no, ◌<?◌, ◌≤?◌, ◌=?◌}
 use Rattle.octets.specs.Bytes.{all_zero}
 use Rattle.refusals.specs.Numbers.{buffer_too_short, session_closed, state_broken, longest_payload}
 use Rattle.sha1_digest.specs.Machine.{fresh}

@@ -1,7 +1,8 @@
 -- Feeding, at every state: in parts, within one block, and whole blocks at once.
+use Rattle.std.specs.Prelude.{if◌then◌else◌}
 use Rattle.std.proofs.Common.{◌≡◌, ℕ, zero, suc, ◌+◌, ◌-◌, ◌*◌, ◌/◌, ◌%◌, ◌^◌, ◌<◌, ◌≤◌, Bool, true, false, List, [], ◌∷◌, ◌++◌, length, take, drop, set, sym, refl, ap, ◌∙◌, append-nil, arith, length-drop, length-set, drop_of_length-le, length-take, take-add, eq-eqb, ne_eqb, eqb-true}
 use borrow.Author.Tests.{eqb-false}
-use Rattle.octets.specs.Words.{if◌then◌else◌, ◌=?◌}
+use Rattle.octets.specs.Words.{◌=?◌}
 use Rattle.octets.specs.Bytes.{placed}
 use Rattle.octets.proofs.Lists.{placed-in, placed-none, placed-next}
 use Rattle.sha1_block.specs.declared.Hash.{Hash}

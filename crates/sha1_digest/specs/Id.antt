@@ -1,7 +1,7 @@
 -- Document 01, "The id": the first 7 lowercase hex digits of SHA-1 over the salt's 8 bytes (two's complement, little-endian; absent
 -- without `s`) and the payload; a payload above 4,096 bytes has none (refusal 4).
-use Rattle.std.specs.Prelude.{ℕ, List, [], ◌++◌, length, take}
-use Rattle.octets.specs.Words.{if◌then◌else◌, ◌<?◌}
+use Rattle.std.specs.Prelude.{ℕ, List, [], ◌++◌, length, take, if◌then◌else◌}
+use Rattle.octets.specs.Words.{◌<?◌}
 use Rattle.octets.specs.Numbers.{little_bytes, twos}
 use Rattle.refusals.specs.Numbers.{payload_too_long, longest_payload}
 use Rattle.text.specs.Hex.{hex_digits, hex_value}

@@ -1,7 +1,7 @@
 -- A state that is fed a message in pieces, at every value that it can have: five words, a block that fills, and how many bytes were fed.
 -- The block's bytes in use are the first `total % 64`, so every value is a state.
-use Rattle.std.specs.Prelude.{ℕ, ◌+◌, ◌%◌, ◌^◌, List, [], ◌∷◌, ◌++◌, replicate, slice_set}
-use Rattle.octets.specs.Words.{if◌then◌else◌, ◌=?◌}
+use Rattle.std.specs.Prelude.{ℕ, ◌+◌, ◌%◌, ◌^◌, List, [], ◌∷◌, ◌++◌, replicate, slice_set, if◌then◌else◌}
+use Rattle.octets.specs.Words.{◌=?◌}
 use Rattle.sha1_block.specs.declared.Hash.{Hash}
 use Rattle.sha1_digest.specs.declared.Sha1.{Sha1}
 use Rattle.sha1_block.specs.Block.{compressed}

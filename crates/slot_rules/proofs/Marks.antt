@@ -1,4 +1,5 @@
 -- The marks of the slots: what a turn of each loop over them comes to.
+use Rattle.std.specs.Prelude.{if◌then◌else◌}
 use mathlib.Core.Path.{◌≡◌, refl, sym, ap, ◌∙◌}
 use Prim.Native.Nat.{ℕ, ◌+◌, ◌<◌, ◌≤◌}
 use native.Mathlib.Omega.{arith}
@@ -8,7 +9,7 @@ use mathlib.Core.List.{List, []}
 use lib.ListN.{length, get_or, set, drop, drop_of_length-le}
 use borrow.Author.Tests.{lt-ltb}
 use lib.Seq.{get_or-set_same, get_or-set_other}
-use Rattle.octets.specs.Words.{if◌then◌else◌, ◌and◌, ◌or◌, some, ◌<?◌}
+use Rattle.octets.specs.Words.{◌and◌, ◌or◌, some, ◌<?◌}
 use Rattle.octets.proofs.Tests.{and_left, and_right, and-next, and-not-left, or_left, or-next}
 use Rattle.octets.proofs.Lists.{drop-next}
 use Rattle.keys.specs.declared.Key.{Key}

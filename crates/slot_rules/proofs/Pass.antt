@@ -1,4 +1,5 @@
 -- A pass over the slots: what a turn comes to, and what it has found at its end.
+use Rattle.std.specs.Prelude.{if◌then◌else◌}
 use mathlib.Core.Path.{◌≡◌, refl, sym, ap, ◌∙◌, subst}
 use Prim.Native.Nat.{ℕ, ◌+◌, ◌<◌, ◌≤◌}
 use native.Mathlib.Omega.{arith}
@@ -6,7 +7,7 @@ use mathlib.Core.Bool.{Bool, true, false}
 use mathlib.Core.List.{List}
 use lib.ListN.{length, drop, drop_of_length-le}
 use borrow.Author.Tests.{lt-ltb, ltb-true, ltb-false}
-use Rattle.octets.specs.Words.{if◌then◌else◌, no, ◌<?◌}
+use Rattle.octets.specs.Words.{no, ◌<?◌}
 use Rattle.octets.proofs.Tests.{if_yes, if_no, no_true, no_false}
 use Rattle.octets.proofs.Lists.{drop-next}
 use Rattle.keys.specs.declared.Key.{Key}

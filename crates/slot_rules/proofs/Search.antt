@@ -1,4 +1,5 @@
 -- Searches in the slots: what a turn of each loop comes to, and where what was found stands.
+use Rattle.std.specs.Prelude.{if◌then◌else◌}
 use mathlib.Core.Path.{◌≡◌, refl, sym, ap, ◌∙◌}
 use Prim.Native.Nat.{ℕ, suc, ◌+◌, ◌≤◌, ◌<◌}
 use native.Mathlib.Omega.{arith}
@@ -6,7 +7,7 @@ use mathlib.Core.Bool.{Bool, true, false}
 use mathlib.Core.List.{List, [], ◌∷◌}
 use lib.ListN.{length, get_or, drop, drop_of_length-le}
 use borrow.Author.Tests.{ltb-true}
-use Rattle.octets.specs.Words.{if◌then◌else◌, some, ◌<?◌}
+use Rattle.octets.specs.Words.{some, ◌<?◌}
 use Rattle.octets.proofs.Tests.{if_yes, if_no, and-not-left, and-next, no_true, no_false}
 use Rattle.octets.proofs.Lists.{drop-next}
 use Rattle.keys.specs.declared.Key.{Key}

@@ -1,6 +1,6 @@
 -- Document 01, "Streams": 32 rows by key. The rules that the slots of a table keep together (40), and the searches in them.
-use Rattle.std.specs.Prelude.{ℕ, ◌+◌, Bool, true, false, List, [], ◌∷◌, length, get_or}
-use Rattle.octets.specs.Words.{if◌then◌else◌, ◌and◌, no, every, some, ◌=?◌}
+use Rattle.std.specs.Prelude.{ℕ, ◌+◌, Bool, true, false, List, [], ◌∷◌, length, get_or, if◌then◌else◌}
+use Rattle.octets.specs.Words.{◌and◌, no, every, some, ◌=?◌}
 use Rattle.keys.specs.declared.Key.{Key}
 use Rattle.slots.specs.declared.Slot.{Slot}
 pub use Rattle.slots.specs.Slot.{is_free, past_slot}

@@ -1,6 +1,6 @@
 -- What the private steps of the code come to. No public promise cites this file.
-use Rattle.std.specs.Prelude.{ℕ, ◌<◌, ◌≤◌, ◌≡◌, Bool, true, List, get_or, drop}
-use Rattle.octets.specs.Words.{if◌then◌else◌, ◌<?◌}
+use Rattle.std.specs.Prelude.{ℕ, ◌<◌, ◌≤◌, ◌≡◌, Bool, true, List, get_or, drop, if◌then◌else◌}
+use Rattle.octets.specs.Words.{◌<?◌}
 use Rattle.keys.specs.Key.{stream_id_of, mark_of}
 use Rattle.slots.specs.declared.Slot.{Slot}
 use Rattle.slot_rules.specs.declared.Ruled.{Ruled}

@@ -1,6 +1,6 @@
 -- Document 01, "Streams": a slot of the table, an open row with its key or a free row, and the rules that it keeps (40).
-use Rattle.std.specs.Prelude.{Bool, true, false, []}
-use Rattle.octets.specs.Words.{if◌then◌else◌, ◌and◌, no}
+use Rattle.std.specs.Prelude.{Bool, true, false, [], if◌then◌else◌}
+use Rattle.octets.specs.Words.{◌and◌, no}
 use Rattle.keys.specs.declared.Key.{Key}
 use Rattle.keys.specs.Key.{same_key, keeps_key, is_no_key, no_key}
 use Rattle.rows.specs.Stream.{fresh}

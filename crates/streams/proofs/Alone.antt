@@ -1,4 +1,5 @@
 -- THEOREM: once a stream is open, a call on it does what the row by itself does: its answer, and the row after it, depend on that row alone.
+use Rattle.std.specs.Prelude.{if◌then◌else◌}
 use mathlib.Core.Path.{◌≡◌, refl, sym, ap, ◌∙◌}
 use Prim.Native.Nat.{ℕ}
 use native.Mathlib.Omega.{arith}
@@ -7,7 +8,7 @@ use mathlib.Core.List.{List}
 use mathlib.Core.Option.{none, some as just}
 use mathlib.Core.Logic.{◌⊎◌, inl, inr}
 use borrow.Author.Tests.{eqb-true, eqb-false}
-use Rattle.octets.specs.Words.{if◌then◌else◌, ◌=?◌}
+use Rattle.octets.specs.Words.{◌=?◌}
 use Rattle.keys.specs.declared.Key.{Key}
 use Rattle.keys.specs.Key.{key_of, named_of}
 use Rattle.callsigns.specs.Callsign.{callsign}

@@ -1,4 +1,5 @@
 -- What stands for a key, by the tests in their order; and the answers of the calls from their parts.
+use Rattle.std.specs.Prelude.{if◌then◌else◌}
 use mathlib.Core.Path.{◌≡◌, refl, sym, ap, ◌∙◌, subst}
 use Prim.Native.Nat.{ℕ, ◌<◌}
 use native.Mathlib.Omega.{arith}
@@ -6,7 +7,7 @@ use mathlib.Core.Bool.{Bool, true, false}
 use mathlib.Core.List.{List}
 use lib.ListN.{length}
 use borrow.Author.Tests.{lt-ltb, eq-eqb, ne_eqb, eqb-true, ltb-false, ltb-true}
-use Rattle.octets.specs.Words.{if◌then◌else◌, no, every, ◌<?◌, ◌=?◌}
+use Rattle.octets.specs.Words.{no, every, ◌<?◌, ◌=?◌}
 use Rattle.octets.proofs.Tests.{if_yes, if_no, and_left, and_right}
 use Rattle.refusals.specs.Numbers.{state_broken, stale, no_free_row, no_such_stream, still_holding}
 use Rattle.keys.specs.declared.Key.{Key}

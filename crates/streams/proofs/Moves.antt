@@ -1,12 +1,13 @@
 -- Every call is one of four moves: a refusal, a row's own call on the row of its key, a row opens for an unknown key, a row freed.
 -- The theorems of the table are proved of the moves.
+use Rattle.std.specs.Prelude.{if◌then◌else◌}
 use mathlib.Core.Path.{◌≡◌, refl, sym, ◌∙◌, subst}
 use Prim.Native.Nat.{ℕ, ◌≤◌}
 use native.Mathlib.Omega.{arith}
 use mathlib.Core.Bool.{Bool, true, false}
 use mathlib.Core.List.{List}
 use borrow.Author.Tests.{le-ltb, ltb-false}
-use Rattle.octets.specs.Words.{if◌then◌else◌, no, some, ◌<?◌, ◌=?◌}
+use Rattle.octets.specs.Words.{no, some, ◌<?◌, ◌=?◌}
 use Rattle.refusals.specs.Numbers.{no_callsign, stream_id_malformed}
 use Rattle.octets.proofs.Tests.{and_right, and-not-right, if_yes}
 use Rattle.octets.proofs.Lists.{every-at}

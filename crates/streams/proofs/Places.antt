@@ -1,4 +1,5 @@
 -- The place of a slot, the row that stands for a key, and both after a slot is set.
+use Rattle.std.specs.Prelude.{if◌then◌else◌}
 use mathlib.Core.Path.{◌≡◌, refl, sym, ap, ◌∙◌, subst}
 use Prim.Native.Nat.{ℕ, zero, suc, ◌+◌, ◌<◌}
 use native.Mathlib.Omega.{arith}
@@ -6,7 +7,7 @@ use mathlib.Core.Bool.{Bool, true, false}
 use mathlib.Core.List.{List, [], ◌∷◌}
 use mathlib.Core.Option.{Option, none, some as just}
 use lib.ListN.{length, get_or, set}
-use Rattle.octets.specs.Words.{if◌then◌else◌, ◌and◌, ◌or◌, no, every, some}
+use Rattle.octets.specs.Words.{◌and◌, ◌or◌, no, every, some}
 use Rattle.octets.proofs.Tests.{if_yes, if_no, and_left, and_right, and_both, and-next, or_no, true-not-false}
 use Rattle.keys.specs.declared.Key.{Key}
 use Rattle.keys.specs.Key.{same_key}

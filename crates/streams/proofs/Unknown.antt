@@ -1,4 +1,5 @@
 -- THEOREM: what a call on a key that has no row does, and when a call is refused before any row is looked for.
+use Rattle.std.specs.Prelude.{if◌then◌else◌}
 use mathlib.Core.Path.{◌≡◌, refl, ap, ◌∙◌}
 use Prim.Native.Nat.{ℕ, ◌≤◌}
 use native.Mathlib.Omega.{arith}
@@ -7,7 +8,7 @@ use mathlib.Core.List.{List}
 use mathlib.Core.Logic.{◌⊎◌, inl, inr}
 use mathlib.Core.Option.{none}
 use borrow.Author.Tests.{le-ltb, ltb-true, ltb-false}
-use Rattle.octets.specs.Words.{if◌then◌else◌, ◌<?◌}
+use Rattle.octets.specs.Words.{◌<?◌}
 use Rattle.refusals.specs.Numbers.{state_broken, no_callsign, stream_id_malformed, stale, no_free_row, no_such_stream}
 use Rattle.keys.specs.Key.{key_of, named_of}
 use Rattle.callsigns.specs.Callsign.{callsign}

@@ -1,6 +1,6 @@
 -- Document 01, "Streams": the calls by key, with the refusals in the order of the paper's table, 40 first.
-use Rattle.std.specs.Prelude.{ℕ, true, List}
-use Rattle.octets.specs.Words.{if◌then◌else◌, ◌and◌, no, ◌<?◌, ◌=?◌}
+use Rattle.std.specs.Prelude.{ℕ, true, List, if◌then◌else◌}
+use Rattle.octets.specs.Words.{◌and◌, no, ◌<?◌, ◌=?◌}
 use Rattle.refusals.specs.Numbers.{state_broken, stale, no_free_row, no_such_stream, still_holding}
 use Rattle.keys.specs.declared.Key.{Key}
 use Rattle.keys.specs.declared.Named.{Named}

@@ -1,6 +1,6 @@
 -- Document 01, "The receiving session": what a whole line and a whole payload lead to: the reply, what happened, and the session after it.
-use Rattle.std.specs.Prelude.{◌≡◌, ℕ, List, [], ◌++◌}
-use Rattle.octets.specs.Words.{if◌then◌else◌, ◌and◌, ◌=?◌}
+use Rattle.std.specs.Prelude.{◌≡◌, ℕ, List, [], ◌++◌, if◌then◌else◌}
+use Rattle.octets.specs.Words.{◌and◌, ◌=?◌}
 use Rattle.sha1_digest.specs.declared.Sha1.{Sha1}
 use Rattle.sha1_digest.specs.Machine.{finished}
 use Rattle.sha1_digest.specs.Id.{id_number}

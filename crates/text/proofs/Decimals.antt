@@ -1,4 +1,5 @@
 -- Decimals: what is written is read back as the number, for every limit; what is read and written again is the same bytes.
+use Rattle.std.specs.Prelude.{if◌then◌else◌}
 use Prim.Native.Nat.{ℕ, zero, suc, ◌+◌, ◌*◌, ◌/◌, ◌%◌, ◌^◌, ◌≤◌, ◌<◌}
 use mathlib.Core.Path.{◌≡◌, refl, ap, sym, ◌∙◌}
 use mathlib.Core.Bool.{Bool, true, false}
@@ -11,7 +12,7 @@ use lib.ListN.{length, get_or, drop, get_or-append}
 use lib.IntN.{ℤ, pos, negsuc, neg_ℤ}
 use mir.Syntax.{w64}
 use mir.Val.{SFits}
-use Rattle.octets.specs.Words.{if◌then◌else◌, ◌and◌, no, ◌<?◌, ◌≤?◌, ◌=?◌, every}
+use Rattle.octets.specs.Words.{◌and◌, no, ◌<?◌, ◌≤?◌, ◌=?◌, every}
 use Rattle.octets.proofs.Tests.{if_yes, if_no, true-not-false, and_left, and_right, and_both, and-not-left, and-not-right, and-next, no_false}
 use Rattle.octets.proofs.Lists.{every-at}
 use Rattle.text.specs.Digits.{digit, worth, is_digit, value, digits}

@@ -1,4 +1,5 @@
 -- Hex: what is written is read back, and what is read and written again is the same bytes; once over the width, then for an id and for `chk`.
+use Rattle.std.specs.Prelude.{if◌then◌else◌}
 use Prim.Native.Nat.{ℕ, suc, ◌^◌, ◌<◌}
 use mathlib.Core.Path.{◌≡◌, refl, ap, sym, ◌∙◌}
 use mathlib.Core.Bool.{Bool, true, false}
@@ -6,7 +7,7 @@ use mathlib.Core.List.{List}
 use native.Mathlib.Omega.{arith}
 use borrow.Author.Tests.{eq-eqb, ne_eqb, eqb-true}
 use lib.ListN.{length}
-use Rattle.octets.specs.Words.{if◌then◌else◌, ◌=?◌, every}
+use Rattle.octets.specs.Words.{◌=?◌, every}
 use Rattle.octets.proofs.Tests.{if_yes, if_no, and_left, and_right, and_both, and-not-left, and-not-right}
 use Rattle.text.specs.Digits.{is_digit}
 use Rattle.text.specs.Hex.{is_hex, hex_value, hex_digits, id_of, chk_of}

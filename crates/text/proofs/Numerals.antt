@@ -1,4 +1,5 @@
 -- Digits, once over the base and the width: what is written spells the number, and what spells a number is what is written.
+use Rattle.std.specs.Prelude.{if◌then◌else◌}
 use Prim.Native.Nat.{ℕ, zero, suc, ◌+◌, ◌-◌, ◌*◌, ◌/◌, ◌%◌, ◌^◌, ◌≤◌, ◌<◌}
 use mathlib.Core.Path.{◌≡◌, refl, ap, sym, ◌∙◌}
 use mathlib.Core.Bool.{Bool, true, false}
@@ -8,7 +9,7 @@ use native.Mathlib.Omega.{arith}
 use borrow.Author.Tests.{ltb-true, ltb-false, lt-ltb, le-ltb, le-leb, lt-leb, leb-true}
 use lib.ListN.{length, get_or, drop, set, length-append, length-set}
 use lib.Seq.{drop-length, drop-cons, drop-set-lt, take-set-le, get_or-set_same}
-use Rattle.octets.specs.Words.{if◌then◌else◌, ◌and◌, ◌<?◌, ◌≤?◌, between, every}
+use Rattle.octets.specs.Words.{◌and◌, ◌<?◌, ◌≤?◌, between, every}
 use Rattle.octets.proofs.Tests.{if_yes, if_no, and_left, and_right, and_both, and-not-left, and-not-right, inside, above, inside-low, inside-high}
 use Rattle.octets.specs.Bytes.{placed}
 use Rattle.octets.proofs.Lists.{drop-next, placed-in, placed-none}

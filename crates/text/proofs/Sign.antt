@@ -1,4 +1,5 @@
 -- A signed number's sign and magnitude, as the code tells them from its bits, and what they make of a decimal.
+use Rattle.std.specs.Prelude.{if◌then◌else◌}
 use Prim.Native.Nat.{ℕ, zero, suc, ◌+◌, ◌-◌, ◌^◌, ◌≤◌, ◌<◌}
 use mathlib.Core.Path.{◌≡◌, refl, ap, sym, ◌∙◌}
 use mathlib.Core.Bool.{Bool, true, false}
@@ -12,7 +13,7 @@ use lib.Signed.{le_z, non_neg}
 use mir.Syntax.{w64}
 use mir.Val.{to_z, of_z, Fits, SFits}
 use mir.ValLaws.{to_z-of_z}
-use Rattle.octets.specs.Words.{if◌then◌else◌, ◌and◌, ◌<?◌}
+use Rattle.octets.specs.Words.{◌and◌, ◌<?◌}
 use Rattle.octets.specs.Bytes.{fits, placed}
 use Rattle.octets.proofs.Tests.{if_yes, true-not-false, and_right}
 use Rattle.octets.proofs.Lists.{length-placed, placed-next}

@@ -1,6 +1,6 @@
 -- Document 01, "Names and fields", decimals: no leading zero, no plus sign; unsigned up to a limit, and signed with 64 bits, where `-0` is malformed.
-use Rattle.std.specs.Prelude.{ℕ, zero, suc, ◌+◌, ◌/◌, Bool, true, false, List, ◌∷◌, length, get_or, drop, ℤ, pos, negsuc, neg_ℤ}
-use Rattle.octets.specs.Words.{if◌then◌else◌, ◌and◌, no, ◌<?◌, ◌≤?◌, ◌=?◌, every}
+use Rattle.std.specs.Prelude.{ℕ, zero, suc, ◌+◌, ◌/◌, Bool, true, false, List, ◌∷◌, length, get_or, drop, ℤ, pos, negsuc, neg_ℤ, if◌then◌else◌}
+use Rattle.octets.specs.Words.{◌and◌, no, ◌<?◌, ◌≤?◌, ◌=?◌, every}
 use Rattle.text.specs.Digits.{is_digit, value, digits}
 use Rattle.text.specs.declared.Number.{Number}
 use Rattle.text.specs.declared.Number.TheVariants as unsigned

@@ -1,6 +1,6 @@
 -- The digits `0-9a-f` and the numbers that they spell, in any base up to sixteen: what decimals and hex have in common.
-use Rattle.std.specs.Prelude.{ℕ, zero, suc, ◌+◌, ◌-◌, ◌*◌, ◌/◌, ◌%◌, ◌^◌, Bool, List, [], ◌∷◌, ◌++◌, length}
-use Rattle.octets.specs.Words.{if◌then◌else◌, ◌<?◌, between}
+use Rattle.std.specs.Prelude.{ℕ, zero, suc, ◌+◌, ◌-◌, ◌*◌, ◌/◌, ◌%◌, ◌^◌, Bool, List, [], ◌∷◌, ◌++◌, length, if◌then◌else◌}
+use Rattle.octets.specs.Words.{◌<?◌, between}
 
 -- the digit that is worth d: 0-9, then a-f
 abbrev pub digit : ℕ → ℕ

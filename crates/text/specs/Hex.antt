@@ -1,6 +1,6 @@
 -- Document 01, "Names and fields" and "The ihave line": an id is 7 of `0-9a-f`, `chk` four lowercase hex digits. Both are one thing at two widths.
-use Rattle.std.specs.Prelude.{ℕ, Bool, List, length}
-use Rattle.octets.specs.Words.{if◌then◌else◌, ◌and◌, ◌=?◌, every}
+use Rattle.std.specs.Prelude.{ℕ, Bool, List, length, if◌then◌else◌}
+use Rattle.octets.specs.Words.{◌and◌, ◌=?◌, every}
 use Rattle.text.specs.Digits.{is_digit, value, digits}
 use Rattle.text.specs.declared.Id.{Id}
 use Rattle.text.specs.declared.Id.TheVariants as id

@@ -1,6 +1,6 @@
 -- What the private functions promise one another; no public promise speaks of it.
-use Rattle.std.specs.Prelude.{ℕ, zero, suc, ◌≤◌, List, pos, negsuc}
-use Rattle.octets.specs.Words.{if◌then◌else◌, ◌and◌, ◌≤?◌, every}
+use Rattle.std.specs.Prelude.{ℕ, zero, suc, ◌≤◌, List, pos, negsuc, if◌then◌else◌}
+use Rattle.octets.specs.Words.{◌and◌, ◌≤?◌, every}
 use Rattle.text.specs.Digits.{is_digit, value}
 use Rattle.text.specs.declared.Number.{Number}
 use Rattle.text.specs.declared.Number.TheVariants.{Is, Malformed}

@@ -1,9 +1,10 @@
 -- A key that is not there has no value.
+use Rattle.std.specs.Prelude.{if◌then◌else◌}
 use Prim.Native.Nat.{ℕ}
 use mathlib.Core.Path.{◌≡◌, refl, sym, ◌∙◌}
 use mathlib.Core.Bool.{Bool, true, false}
 use mathlib.Core.List.{List, [], ◌∷◌}
-use Rattle.octets.specs.Words.{if◌then◌else◌}
+
 use Rattle.octets.specs.Bytes.{same}
 use Rattle.octets.proofs.Tests.{if_no, or_no}
 use Rattle.tokens.specs.Tokens.{Token, present, value}

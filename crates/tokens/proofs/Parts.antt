@@ -1,4 +1,5 @@
 -- A text cut at a byte: what stands before it and behind it are parts of the text.
+use Rattle.std.specs.Prelude.{if◌then◌else◌}
 use Prim.Native.Nat.{ℕ, suc, ◌+◌, ◌-◌, ◌≤◌, ◌<◌}
 use mathlib.Core.Path.{◌≡◌, refl, ap, sym, ◌∙◌}
 use mathlib.Core.Bool.{Bool, true, false}
@@ -9,7 +10,7 @@ use lib.ListN.{length, get_or, take, drop, length-drop, drop_of_length-le}
 use lib.Seq.{take_all}
 use lib.Dec.{leb-suc-suc}
 use borrow.Author.Tests.{lt-ltb, eq-eqb, ne_eqb}
-use Rattle.octets.specs.Words.{if◌then◌else◌, ◌or◌, ◌<?◌, ◌=?◌}
+use Rattle.octets.specs.Words.{◌or◌, ◌<?◌, ◌=?◌}
 use Rattle.octets.proofs.Lists.{drop-next}
 use Rattle.octets.proofs.Tests.{if_yes, if_no}
 use Rattle.tokens.specs.Cuts.{has, before, after}

@@ -1,4 +1,5 @@
 -- The words of a text one after the other, from a place on.
+use Rattle.std.specs.Prelude.{if◌then◌else◌}
 use Prim.Native.Nat.{ℕ, suc, ◌+◌, ◌-◌, ◌≤◌, ◌<◌}
 use mathlib.Core.Path.{◌≡◌, refl, ap, sym, ◌∙◌}
 use mathlib.Core.Bool.{Bool, true, false}
@@ -8,7 +9,7 @@ use lib.ListN.{length, take, drop, length-drop}
 use lib.Seq.{take_all, drop-drop}
 use lib.Dec.{leb-suc-suc}
 use borrow.Author.Tests.{le-leb, lt-leb, leb-true, leb-false}
-use Rattle.octets.specs.Words.{if◌then◌else◌, ◌≤?◌, ◌=?◌}
+use Rattle.octets.specs.Words.{◌≤?◌, ◌=?◌}
 use Rattle.octets.proofs.Tests.{if_yes, if_no}
 use Rattle.tokens.specs.Cuts.{before, onto, split}
 use Rattle.tokens.specs.Tokens.{token_of, words, tokens, space}

@@ -1,6 +1,6 @@
 -- A text cut at a byte.
-use Rattle.std.specs.Prelude.{ℕ, Bool, List, [], ◌∷◌}
-use Rattle.octets.specs.Words.{if◌then◌else◌, ◌=?◌, some}
+use Rattle.std.specs.Prelude.{ℕ, Bool, List, [], ◌∷◌, if◌then◌else◌}
+use Rattle.octets.specs.Words.{◌=?◌, some}
 
 -- the byte c stands in the text
 unfoldable pub has : ℕ → List ℕ → Bool

@@ -1,6 +1,6 @@
 -- The words of a text from a place on, which loops over them go by; no public promise speaks of it.
-use Rattle.std.specs.Prelude.{ℕ, List, [], map, length, drop}
-use Rattle.octets.specs.Words.{if◌then◌else◌, ◌≤?◌}
+use Rattle.std.specs.Prelude.{ℕ, List, [], map, length, drop, if◌then◌else◌}
+use Rattle.octets.specs.Words.{◌≤?◌}
 use Rattle.tokens.specs.Cuts.{before}
 use Rattle.tokens.specs.Tokens.{Token, token_of, words, space}
 

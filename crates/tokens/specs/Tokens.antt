@@ -1,6 +1,6 @@
 -- Document 01, "The ihave line": `key=value` tokens, one space between; a token splits at its first `=`.
-use Rattle.std.specs.Prelude.{ℕ, Bool, true, false, List, [], ◌∷◌, ◌++◌, map}
-use Rattle.octets.specs.Words.{if◌then◌else◌, ◌and◌, ◌or◌, no, every, some}
+use Rattle.std.specs.Prelude.{ℕ, Bool, true, false, List, [], ◌∷◌, ◌++◌, map, if◌then◌else◌}
+use Rattle.octets.specs.Words.{◌and◌, ◌or◌, no, every, some}
 use Rattle.octets.specs.Bytes.{same}
 use Rattle.names.specs.Reserved.{reserved, key_chk}
 use Rattle.headers.specs.Keys.{all_differ}

@@ -1,4 +1,5 @@
 -- ASCII: what was gathered of a step tells of all its bytes; the run that a text begins with, and the rest behind it.
+use Rattle.std.specs.Prelude.{if◌then◌else◌}
 use Prim.Native.Nat.{ℕ, zero, suc, ◌+◌, ◌-◌, ◌≤◌, ◌<◌}
 use mathlib.Core.Path.{◌≡◌, refl, sym, ap, ◌∙◌}
 use mathlib.Core.Bool.{Bool, true, false}
@@ -8,7 +9,7 @@ use lib.Bits.{bit_or, or_lt, or_add_and, and_le_l, and_le_r}
 use lib.ListN.{length, get_or, take, drop, length-drop}
 use lib.Seq.{drop-drop}
 use borrow.Author.Tests.{le-leb, lt-leb, leb-true, leb-false}
-use Rattle.octets.specs.Words.{if◌then◌else◌, ◌and◌, every, ◌≤?◌}
+use Rattle.octets.specs.Words.{◌and◌, every, ◌≤?◌}
 use Rattle.octets.proofs.Tests.{if_yes, if_no, and_left, and_right, and_both, and-next, and-true, and_assoc, inside-high}
 use Rattle.octets.proofs.Lists.{drop-next}
 use Rattle.utf8.specs.Utf8.{utf8}

@@ -1,6 +1,6 @@
 -- ASCII: the characters of one byte, up to 0x7F.
-use Rattle.std.specs.Prelude.{ℕ, Bool, List, [], ◌∷◌}
-use Rattle.octets.specs.Words.{if◌then◌else◌, between}
+use Rattle.std.specs.Prelude.{ℕ, Bool, List, [], ◌∷◌, if◌then◌else◌}
+use Rattle.octets.specs.Words.{between}
 
 -- a byte up to 0x7F
 abbrev pub ascii : ℕ → Bool

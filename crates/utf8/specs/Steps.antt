@@ -1,6 +1,6 @@
 -- What the private functions promise one another; no public promise speaks of it.
-use Rattle.std.specs.Prelude.{ℕ, ◌+◌, ◌≤◌, ◌≡◌, Bool, false, List, [], length, take, drop}
-use Rattle.octets.specs.Words.{if◌then◌else◌, every, ◌=?◌}
+use Rattle.std.specs.Prelude.{ℕ, ◌+◌, ◌≤◌, ◌≡◌, Bool, false, List, [], length, take, drop, if◌then◌else◌}
+use Rattle.octets.specs.Words.{every, ◌=?◌}
 use Rattle.utf8.specs.Utf8.{Range, run}
 use Rattle.utf8.specs.Ascii.{ascii, behind_ascii}
 
