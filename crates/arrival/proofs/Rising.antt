@@ -7,7 +7,7 @@ use mathlib.Core.Bool.{Bool, true, false}
 use mathlib.Core.List.{List, [], ◌∷◌, ◌++◌}
 use mathlib.Core.Logic.{inl, inr}
 use borrow.Author.Tests.{eq-eqb, eqb-true, ne_eqb}
-use Rattle.octets.specs.Words.{no as not, between, ◌=?◌}
+use Rattle.octets.specs.Words.{no as nay, between, ◌=?◌}
 use Rattle.octets.proofs.Tests.{no_true, inside, below, above, inside-high}
 use Rattle.places.specs.declared.Held.{Held}
 use Rattle.history.specs.History.{Sent, bit, count, count_held, numbered, In, Rises}
@@ -57,7 +57,7 @@ of-order slip (suc n) i = omega (arith, of-order slip n i, one_more n i, count-a
 module _ (slip : ℕ → ℕ) where
   -- a message that bears another slip than its number's
   abbrev pub astray : Sent → Bool
-  astray x = not (x.slip =? slip x.number)
+  astray x = nay (x.slip =? slip x.number)
 
   pub none-astray : (l : List Held) → ((m : Held) → In m l → m.slip ≡ slip m.number) → count_held astray l ≡ 0
   none-astray [] h = refl
@@ -67,7 +67,7 @@ module _ (slip : ℕ → ℕ) where
   its-slip : (x : Sent) → bit (astray x) ≡ 0 → x.slip ≡ slip x.number
   its-slip x e = go (x.slip =? slip x.number) refl e
     where
-      go : (b : Bool) → (x.slip =? slip x.number) ≡ b → bit (not b) ≡ 0 → x.slip ≡ slip x.number
+      go : (b : Bool) → (x.slip =? slip x.number) ≡ b → bit (nay b) ≡ 0 → x.slip ≡ slip x.number
       go true q z = eqb-true x.slip (slip x.number) q
       go false q z = absurd (omega arith)
 

@@ -9,7 +9,7 @@ use mathlib.Core.List.{List, [], ◌∷◌, map}
 use mathlib.Core.Logic.{◌⊎◌, inl, inr}
 use lib.ListN.{length, get_or, get_or-replicate, get_or-map}
 use lib.Seq.{get_or-set_same, get_or-set_other}
-use Rattle.octets.specs.Words.{◌and◌, no as not, every, some, ◌≤?◌}
+use Rattle.octets.specs.Words.{◌and◌, no as nay, every, some, ◌≤?◌}
 use Rattle.octets.specs.Bytes.{placed}
 use Rattle.octets.proofs.Tests.{if_yes, if_no, and_left, and_right, and_both, and-next, true-not-false}
 use Rattle.groupkeys.specs.declared.Key.{Key}
@@ -60,13 +60,13 @@ one-holder (x ∷ l) e k zero (suc j) a b = true-not-false _ (of-key k x (get_or
   where
     lone : (x : Group) (l : List Group) → distinct (x ∷ l) ≡ true → x.is_open ≡ true → (j : ℕ) → has_key x.key (get_or l j past_group) ≡ false
     lone x l e u j =
-        some_at (has_key x.key) l j (sym (and-next x.is_open _ u) ∙ not_free (twice x l) (and_left (not (twice x l)) _ e)) (free-key x.key past_group refl)
+        some_at (has_key x.key) l j (sym (and-next x.is_open _ u) ∙ not_free (twice x l) (and_left (nay (twice x l)) _ e)) (free-key x.key past_group refl)
 one-holder (x ∷ l) e k (suc i) zero a b = true-not-false _ (of-key k x (get_or l i past_group) b a) (lone x l e (open-key k x b) i)
   where
     lone : (x : Group) (l : List Group) → distinct (x ∷ l) ≡ true → x.is_open ≡ true → (j : ℕ) → has_key x.key (get_or l j past_group) ≡ false
     lone x l e u j =
-        some_at (has_key x.key) l j (sym (and-next x.is_open _ u) ∙ not_free (twice x l) (and_left (not (twice x l)) _ e)) (free-key x.key past_group refl)
-one-holder (x ∷ l) e k (suc i) (suc j) a b = ap suc (one-holder l (and_right (not (twice x l)) _ e) k i j a b)
+        some_at (has_key x.key) l j (sym (and-next x.is_open _ u) ∙ not_free (twice x l) (and_left (nay (twice x l)) _ e)) (free-key x.key past_group refl)
+one-holder (x ∷ l) e k (suc i) (suc j) a b = ap suc (one-holder l (and_right (nay (twice x l)) _ e) k i j a b)
 
 -- ---- a group that the fragments l made
 
@@ -93,12 +93,12 @@ module _ (l : List Arrival) (g : ℕ) (x : Group) (store : List ℕ) (m : Match 
       joined-whole l store g 0 x.total x.pieces (omega arith) (λ i h. let z : 0 + i ≡ i = omega arith in rw z (m.parts.bytes i (omega arith))) ∙ ap (λ (c : ℕ). joined_by (numbers 1 c) l) (sym m.total)
 
 match-stale : (l : List Arrival) (g : ℕ) (x : Group) (store : List ℕ) (time : ℕ) → Match l g x store → keeps_group x ≡ true → x.is_open ≡ true
-    → stale time l ≡ (x.is_open and not (complete x) and 604800 ≤? time - x.began)
+    → stale time l ≡ (x.is_open and nay (complete x) and 604800 ≤? time - x.began)
 match-stale [] g x store time m k u = let h = m.filled in absurd (omega arith)
 match-stale (f ∷ l) g x store time m k u =
     let c : whole (f ∷ l) ≡ complete x = sym (match-complete (f ∷ l) g x store m k u) in
     let b : first_time (f ∷ l) ≡ x.began = m.began in
-    (λ i. not (c i) and 604800 ≤? time - b i) ∙ sym (and-next x.is_open _ u)
+    (λ i. nay (c i) and 604800 ≤? time - b i) ∙ sym (and-next x.is_open _ u)
 
 -- ---- groups and a store that agree with what a history says, `said k` being the fragments under the key k
 
@@ -224,7 +224,7 @@ module _ (t : Groups) (store : List ℕ) (said : Key → List Arrival) (o : Good
   left = record { items = map (swept_group time) t.items }
 
   abbrev old : Group → Bool
-  old x = x.is_open and not (complete x) and 604800 ≤? time - x.began
+  old x = x.is_open and nay (complete x) and 604800 ≤? time - x.began
 
   past-stays : swept_group time past_group ≡ past_group
   unfolding swept_group

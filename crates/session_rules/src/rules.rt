@@ -1,6 +1,6 @@
 // The tests, one by one.
-ghost use Rattle.std.specs.Prelude.{◌≡◌};
-ghost use Rattle.octets.specs.Words.{if◌then◌else◌, ◌or◌, ◌<?◌};
+ghost use Rattle.std.specs.Prelude.{◌≡◌, if◌then◌else◌};
+ghost use Rattle.octets.specs.Words.{◌or◌, ◌<?◌};
 ghost use Rattle.refusals.specs.Numbers.{longest_payload};
 ghost use Rattle.session_rules.specs.Rules.{session_by, keeps_session, longest_reply};
 

@@ -1,8 +1,8 @@
 // SHA-1 (FIPS 180-4): what a block, or the whole blocks of a piece, make of the hash value.
 #![tactic(auto)]
 
-ghost use Rattle.std.specs.Prelude.{◌≡◌, ◌/◌, length};
-ghost use Rattle.octets.specs.Words.{if◌then◌else◌, ◌=?◌};
+ghost use Rattle.std.specs.Prelude.{◌≡◌, ◌/◌, length, if◌then◌else◌};
+ghost use Rattle.octets.specs.Words.{◌=?◌};
 ghost use Rattle.sha1_block.specs.Block as fips;
 
 mod block;

@@ -1,8 +1,8 @@
 // Document 01, "Streams": the 32 slots of a table together: their rules (40), and what one pass over them finds.
 #![tactic(auto)]
 
-ghost use Rattle.std.specs.Prelude.{◌≡◌, ◌+◌, ◌<◌};
-ghost use Rattle.octets.specs.Words.{if◌then◌else◌, ◌<?◌};
+ghost use Rattle.std.specs.Prelude.{◌≡◌, ◌+◌, ◌<◌, if◌then◌else◌};
+ghost use Rattle.octets.specs.Words.{◌<?◌};
 ghost use Rattle.slot_rules.specs.Slots.{test_of, broken};
 ghost use Rattle.slot_rules.specs.Steps.{unseen, seen_at};
 
