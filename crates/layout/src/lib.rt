@@ -85,6 +85,7 @@ pub fn blank() -> Datagram
 }
 
 // Whether these are hops: at most 16, each a callsign.
+#[tactic(auto, using(crate::proofs::Past::hops_over))]
 fn are_hops(h: Hops) -> bool
     ensures { result ≡ hops_in h }
 {

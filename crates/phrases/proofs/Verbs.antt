@@ -1,6 +1,6 @@
 -- Words: what begins a line, and what a line spells in any letter case.
 use mathlib.Core.Path.{◌≡◌, refl, sym, ap, ◌∙◌}
-use Prim.Native.Nat.{ℕ, zero, suc, ◌+◌, ◌-◌, ◌≤◌, ◌<◌}
+use Prim.Native.Nat.{ℕ, zero, suc, ◌+◌, ◌-◌, ◌<◌}
 use native.Mathlib.Omega.{arith}
 use native.Mathlib.Numerals.{add-one}
 use mathlib.Core.Bool.{Bool, true, false}
@@ -10,7 +10,7 @@ use lib.Seq.{take-suc, take_all, take-append_seam}
 use borrow.Author.Tests.{eq-eqb, ne_eqb}
 use Rattle.octets.specs.Words.{◌and◌, ◌or◌, some, ◌=?◌}
 use Rattle.octets.specs.Bytes.{same, placed}
-use Rattle.octets.proofs.Tests.{if_yes, if_no, or-next, or_left, and-next, and-not-left, true-not-false, inside, below, above}
+use Rattle.octets.proofs.Tests.{if_yes, if_no, or-next, or_left, and-next, and-not-left, true-not-false}
 use Rattle.octets.proofs.Lists.{same_refl, same-eq, same-short, drop-next, placed-in}
 use Rattle.text.specs.Hex.{hex_digits}
 use Rattle.text.proofs.Numerals.{length_digits}
@@ -75,15 +75,6 @@ verb-more word s e h =
     ∙ same-last word (get_or s (length word) 0) 32
 
 -- ---- letters
-
-pub lower-below : (x : ℕ) → x < 65 → lower x ≡ x
-lower-below x h = rw (below 65 90 x h)
-
-pub lower-above : (x : ℕ) → 90 < x → lower x ≡ x
-lower-above x h = rw (above 65 90 x h)
-
-pub lower-letter : (x : ℕ) → 65 ≤ x → x ≤ 90 → lower x ≡ x + 32
-lower-letter x h k = rw (inside 65 90 x h k)
 
 -- the rest of a line spells the rest of a word
 pub spells-short : (s w : List ℕ) → (length s ≡ length w → ⊥) → spells s w ≡ false

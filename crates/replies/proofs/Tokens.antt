@@ -27,9 +27,9 @@ pub good_none : (t : List ℕ) → length t < 1 → token_good t ≡ false
 unfolding token_good
 good_none t h = and-not-left _ _ (below 1 7 (length t) h)
 
-pub good-long : (t : List ℕ) → 7 < length t → token_good t ≡ false
+pub good_long : (t : List ℕ) → 7 < length t → token_good t ≡ false
 unfolding token_good
-good-long t h = and-not-left _ _ (above 1 7 (length t) h)
+good_long t h = and-not-left _ _ (above 1 7 (length t) h)
 
 pub good-rest : (t : List ℕ) → 1 ≤ length t → length t ≤ 7 → token_good t ≡ every (between 0x21 0x7E) t
 unfolding token_good

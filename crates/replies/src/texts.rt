@@ -114,6 +114,7 @@ pub(crate) fn token(s: &[u8]) -> &[u8]
 }
 
 // Whether a token is said again: 1 to 7 bytes, all 0x21 to 0x7E.
+#[tactic(auto, using(crate::proofs::Tokens::good_long))]
 fn is_token(t: &[u8]) -> bool
     ensures { result ≡ token_good t.now }
 {

@@ -3,14 +3,11 @@ use mathlib.Core.Path.{sym, ◌∙◌}
 use borrow.Author.Rules.{rules}
 use Rattle.octets.specs.Words.{between}
 use Rattle.octets.proofs.Lists.{every-end}
-use Rattle.replies.proofs.Tokens.{good_none, good-long, good-rest, byte_low, byte_high, byte-good}
+use Rattle.replies.proofs.Tokens.{good_none, good-rest, byte_low, byte_high, byte-good}
 use Rattle.replies.proofs.texts.is_token.Goals as goal
 
 pub returns-then-t-lt1 : goal.returns-then-t-lt1
 returns-then-t-lt1 c = sym (good_none c.args.t.now (search rules))
-
-pub returns-then-t-gt7 : goal.returns-then-t-gt7
-returns-then-t-gt7 c = sym (good-long c.args.t.now (search rules))
 
 pub loop-i-init : goal.loop-i-init
 loop-i-init c = (search rules, good-rest c.args.t.now (search rules) (search rules))
