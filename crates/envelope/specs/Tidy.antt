@@ -7,9 +7,6 @@ use Rattle.headers.specs.declared.Header.{Header}
 use Rattle.headers.specs.declared.Headers.{Headers}
 use Rattle.headers.specs.Keys.{key_of}
 use Rattle.headers.specs.Rule.{value_of}
-use Rattle.envelope.specs.declared.CallText.{CallText}
-use Rattle.envelope.specs.declared.AddressText.{AddressText}
-use Rattle.envelope.specs.declared.StreamText.{StreamText}
 use Rattle.envelope.specs.declared.Envelope.{Envelope}
 use Rattle.envelope.specs.Texts.{call_text, address_text, stream_text, header_text}
 use Rattle.envelope.specs.Rules.{call_bytes, address_bytes, stream_bytes}

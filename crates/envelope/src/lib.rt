@@ -130,6 +130,7 @@ pub fn is_call(t: CallText) -> bool
 }
 
 // Whether the fields are those of a valid message.
+#[tactic(auto, unfolding(crate::specs::Rules::envelope))]
 pub fn is_valid(e: Envelope) -> bool
     ensures { result ≡ envelope e }
 {

@@ -12,7 +12,7 @@ use borrow.Author.Tests.{le-leb, lt-leb, leb-true, leb-false}
 use Rattle.octets.specs.Words.{◌and◌, every, ◌≤?◌}
 use Rattle.octets.proofs.Tests.{if_yes, if_no, and_left, and_right, and_both, and-next, and-true, and_assoc, inside-high}
 use Rattle.octets.proofs.Lists.{drop-next}
-use Rattle.utf8.specs.Utf8.{utf8}
+use Rattle.utf8.specs.Utf8.{utf8, run}
 use Rattle.utf8.specs.Ascii.{ascii, ascii_run, behind_ascii}
 use Rattle.utf8.proofs.Runs.{ascii-well-formed, row-decides}
 
@@ -128,6 +128,10 @@ rest-decides (b ∷ s) = go (ascii b) refl (rest-decides s)
     go : (p : Bool) → ascii b ≡ p → utf8 s ≡ utf8 (behind_ascii s) → utf8 (b ∷ s) ≡ utf8 (if p then behind_ascii s else b ∷ s)
     go true e h = row-decides 0 refl refl (b ∷ s) 0 (omega arith) (omega arith) (inside-high 0 0x7F b e) ∙ h
     go false e h = refl
+
+-- at a byte up to 0x7F what stands behind the run of ASCII decides
+pub ascii_led : (s : List ℕ) (i : ℕ) → i < length s → get_or s i 0 ≤ 0x7F → run [] (drop i s) ≡ run [] (behind_ascii (drop (i + 1) s))
+ascii_led s i h k = row-decides 0 refl refl s i h (omega arith) k ∙ rest-decides (drop (i + 1) s)
 
 -- the answer for a text is that of its run of ASCII, which is well-formed by itself (`ascii-well-formed`), and of its rest
 pub by-ascii-and-rest : (s : List ℕ) → utf8 s ≡ utf8 (ascii_run s) and utf8 (behind_ascii s)

@@ -9,6 +9,7 @@ mod characters;
 
 // Whether the bytes are well-formed UTF-8: no overlong form, no surrogate, nothing above U+10FFFF.
 // A run of ASCII is passed as a whole; the rules of longer characters are entered at a byte above 0x7F alone.
+#[tactic(auto, using(crate::proofs::AsciiRuns::ascii_led))]
 pub fn well_formed(s: &[u8]) -> bool
     ensures { result ≡ utf8 s.now }
 {

@@ -1,27 +1,15 @@
 -- From each place on, the rest decides: behind a run of ASCII, and behind any other character, which `character` measures.
-use Prim.Native.Nat.{◌+◌}
 use mathlib.Core.Path.{refl, sym, ap, ◌∙◌}
-use mathlib.Core.List.{[]}
 use native.Mathlib.Omega.{arith}
 use borrow.Author.Rules.{rules}
 use borrow.Author.Tests.{ne_eqb}
-use lib.ListN.{drop}
 use Rattle.octets.proofs.Tests.{if_no}
-use Rattle.utf8.specs.Utf8.{run}
 use Rattle.utf8.specs.Steps.{goes_on}
-use Rattle.utf8.proofs.Runs.{run_end, row-decides}
-use Rattle.utf8.proofs.AsciiRuns.{rest-decides}
+use Rattle.utf8.proofs.Runs.{run_end}
 use Rattle.utf8.proofs.well_formed.Goals as goal
 
 pub loop-i-init : goal.loop-i-init
 loop-i-init c = refl
-
-pub loop-i-smaller-then-s-i-le127 : goal.loop-i-smaller-then-s-i-le127
-loop-i-smaller-then-s-i-le127 c = omega (arith, c.behind_run-i.ensures.0)
-
-pub loop-i-preserved-then-s-i-le127 : goal.loop-i-preserved-then-s-i-le127
-loop-i-preserved-then-s-i-le127 c = let next = c.loop-i.i + 1 in
-    c.loop-i.invariant ∙ row-decides 0 refl refl c.args.s.now c.loop-i.i (search rules) (search rules) (search rules) ∙ rest-decides (drop next c.args.s.now) ∙ sym (ap (run []) c.behind_run-i.ensures.2)
 
 pub returns-then-to-eq0 : goal.returns-then-to-eq0
 returns-then-to-eq0 c = sym (c.loop-i.invariant ∙ c.character-to.ensures.decides ∙ ap (goes_on c.args.s.now) c.if-to-eq0.true)
