@@ -6,7 +6,6 @@ use mathlib.Core.Bool.{Bool, true, false}
 use mathlib.Core.List.{List, []}
 use mathlib.Core.Logic.{◌⊎◌, inl, inr}
 use mathlib.Core.Option.{Option, none, some as just}
-
 use Rattle.octets.proofs.Tests.{if_yes}
 use Rattle.refusals.specs.Numbers.{no_callsign, stream_id_malformed, no_such_stream}
 use Rattle.callsigns.specs.Callsign.{callsign}

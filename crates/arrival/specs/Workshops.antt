@@ -1,7 +1,6 @@
 -- Document 02, W14, of two workshops that hear one stream, each a chain of calls on a table of its own; and the sentence as it is written there.
 use Rattle.std.specs.Prelude.{ℕ, ◌≡◌, true, false, List, [], ◌∷◌, ◌++◌, if◌then◌else◌}
 use Rattle.std.proofs.Math.Option.{none}
-
 use Rattle.keys.specs.declared.Key.{Key}
 use Rattle.keys.specs.Key.{same_key, named_of}
 use Rattle.places.specs.declared.Held.{Held}

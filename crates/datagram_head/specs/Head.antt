@@ -1,6 +1,5 @@
 -- Document 01, "The datagram": what stands before the payload.
 use Rattle.std.specs.Prelude.{ℕ, List, [], ◌∷◌, ◌++◌, if◌then◌else◌}
-
 use Rattle.octets.specs.Field.{num}
 use Rattle.layout.specs.declared.Datagram.{Datagram}
 use Rattle.layout.specs.Rules.{valid}

@@ -1,7 +1,6 @@
 -- What of a message counts: its fields up to their lengths and flags. Tidied, it is zero past every length and behind every clear flag;
 -- readers answer tidy messages only.
 use Rattle.std.specs.Prelude.{ℕ, Bool, [], map, take, replicate, pos, if◌then◌else◌}
-
 use Rattle.octets.specs.Bytes.{front}
 use Rattle.headers.specs.declared.Header.{Header}
 use Rattle.headers.specs.declared.Headers.{Headers}

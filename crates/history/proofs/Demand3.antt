@@ -8,7 +8,6 @@ use mathlib.Core.List.{List, [], ◌∷◌}
 use mathlib.Core.Logic.{◌⊎◌, inl, inr}
 use mathlib.Core.Option.{Option, none, some as just}
 use lib.ListN.{length, length-take}
-
 use Rattle.octets.proofs.Tests.{if_yes, if_no}
 use Rattle.refusals.specs.Numbers.{still_holding}
 use Rattle.callsigns.specs.Callsign.{callsign}

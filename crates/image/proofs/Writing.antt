@@ -7,7 +7,6 @@ use mathlib.Core.Bool.{Bool, true, false}
 use mathlib.Core.List.{List, [], ◌++◌}
 use lib.ListN.{length, drop, get_or, length-append, drop_of_length-le}
 use borrow.Author.Tests.{lt-ltb, le-ltb}
-
 use Rattle.octets.specs.Bytes.{front, placed}
 use Rattle.octets.proofs.Tests.{if_yes, if_no, no_true, no_false}
 use Rattle.octets.proofs.Lists.{drop-next, every-at, placed-none}

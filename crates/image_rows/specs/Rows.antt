@@ -1,6 +1,5 @@
 -- Document 01, "The saved table": the rows that an image begins with.
 use Rattle.std.specs.Prelude.{ℕ, zero, suc, ◌+◌, true, List, [], ◌∷◌, take, drop, if◌then◌else◌}
-
 use Rattle.octets.specs.Bytes.{same}
 use Rattle.octets.specs.Field.{Res, got, bind}
 use Rattle.keys.specs.declared.Key.{Key}

@@ -1,6 +1,5 @@
 -- What the readers of an image answer: the values and the bytes used, or fixed blanks where the bytes say none.
 use Rattle.std.specs.Prelude.{true, false, List, if◌then◌else◌}
-
 use Rattle.octets.specs.Field.{Res, bad, got}
 use Rattle.slots.specs.declared.Slot.{Slot}
 use Rattle.streams.specs.Table.{free_slot, keeps_slots, open_count, empty}

@@ -1,6 +1,5 @@
 -- What of a message counts: its fields up to their lengths and flags. Tidied, it is zero past every length and behind every clear flag.
 use Rattle.std.specs.Prelude.{[], map, if◌then◌else◌}
-
 use Rattle.envelope.specs.Texts.{call_text}
 use Rattle.envelope.specs.Rules.{call_bytes}
 use Rattle.envelope.specs.Tidy.{behind, tidy}

@@ -1,6 +1,5 @@
 -- Document 01, "The ihave line": how a message is written, and which messages can be.
 use Rattle.std.specs.Prelude.{ℕ, Bool, true, List, [], ◌∷◌, ◌++◌, map, length, take, if◌then◌else◌}
-
 use Rattle.text.specs.Decimal.{decimal, signed_decimal}
 use Rattle.text.specs.Hex.{hex_digits}
 use Rattle.names.specs.Reserved.{key_len, key_fmt, key_s, key_dst, key_chk, key_ttl, key_src, key_mid, key_frag, key_sid, key_sn, key_gt}

@@ -1,6 +1,5 @@
 -- What the private functions promise one another; no public promise speaks of it.
 use Rattle.std.specs.Prelude.{ℕ, Bool, List, [], ◌∷◌, ◌++◌, if◌then◌else◌}
-
 use Rattle.tokens.specs.Tokens.{Token, space, equals}
 use Rattle.line_draft.specs.Draft.{Draft, added}
 

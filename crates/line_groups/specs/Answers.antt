@@ -1,6 +1,5 @@
 -- What the readers of a line's values answer: where the rules hold, the values, else nothing but that they do not.
 use Rattle.std.specs.Prelude.{ℕ, Bool, true, false, List, pos, if◌then◌else◌}
-
 use Rattle.octets.specs.Bytes.{same}
 use Rattle.text.specs.Decimal.{number, signed}
 use Rattle.text.specs.Hex.{hex_value}

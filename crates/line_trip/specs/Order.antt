@@ -1,6 +1,5 @@
 -- Document 01, "The ihave line", the writer's order (H): len fmt s ttl src mid frag sid sn gt, headers, dst, chk.
 use Rattle.std.specs.Prelude.{ℕ, ◌≡◌, List, [], ◌∷◌, ◌++◌, if◌then◌else◌}
-
 use Rattle.names.specs.Reserved.{key_len, key_fmt, key_s, key_dst, key_chk, key_ttl, key_src, key_mid, key_frag, key_sid, key_sn, key_gt}
 use Rattle.tokens.specs.Tokens.{Token, keys, present, others}
 

@@ -5,7 +5,6 @@ use mathlib.Core.Path.{◌≡◌, refl, ap, sym, ◌∙◌}
 use mathlib.Core.Bool.{Bool, true, false}
 use mathlib.Core.List.{List, []}
 use lib.IntN.{pos}
-
 use Rattle.octets.proofs.Tests.{if_yes, if_no, and_both, and-not-left, and-not-right}
 use Rattle.text.specs.Digits as digits
 use Rattle.text.specs.Decimal.{is_number, number, number_of, is_signed, signed, signed_of}

@@ -8,7 +8,6 @@ use mathlib.Core.List.{List, [], ◌∷◌, ◌++◌, append_assoc}
 use lib.ListN.{length, drop, length-append, length-drop}
 use lib.Seq.{length-take-le}
 use borrow.Author.Tests.{le-leb, lt-leb}
-
 use Rattle.octets.specs.Bytes.{fits, placed}
 use Rattle.octets.proofs.Tests.{if_yes, if_no}
 use Rattle.octets.proofs.Lists.{placed-none, placed-append, placed-out}

@@ -1,7 +1,6 @@
 -- What a table means to its callers: the row that stands for a key. The theorems of the table speak of it.
 use Rattle.std.specs.Prelude.{List, [], ◌∷◌, if◌then◌else◌}
 use Rattle.std.proofs.Math.Option.{Option, none, some}
-
 use Rattle.keys.specs.declared.Key.{Key}
 use Rattle.rows.specs.declared.Row.{Row}
 use Rattle.slots.specs.declared.Slot.{Slot}

@@ -4,7 +4,6 @@ use Prim.Native.Nat.{ℕ}
 use mathlib.Core.Path.{◌≡◌, refl, sym, ◌∙◌}
 use mathlib.Core.Bool.{Bool, true, false}
 use mathlib.Core.List.{List, [], ◌∷◌}
-
 use Rattle.octets.specs.Bytes.{same}
 use Rattle.octets.proofs.Tests.{if_no, or_no}
 use Rattle.tokens.specs.Tokens.{Token, present, value}
