@@ -29,7 +29,7 @@ use Rattle.streams.specs.Meaning.{row_for}
 use Rattle.streams.proofs.Alone.{named-is}
 use Rattle.streams.proofs.Unknown as unknown
 use Rattle.history.specs.History.{take, Event, accepts, gives_nothing, History, opened, restored, ◌▷◌, numbered, In}
-use Rattle.history.specs.Chain.{Call, offer, give, small, asked, Log, answered, noted, mine, Chain, begins, asks, row_call, replay}
+use Rattle.history.specs.Chain.{Call, offer, give, small, asked, Log, answered, noted, mine, Chain, begins, row_call, replay}
 use Rattle.history.specs.Cards.{originator, chat}
 use Rattle.history.proofs.Counting.{held-append}
 use Rattle.history.proofs.Demand3.{rules-kept, own-answer, no-row-no-history}

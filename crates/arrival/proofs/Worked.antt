@@ -9,7 +9,6 @@ use mathlib.Core.Logic.{inl, inr}
 use mathlib.Core.Option.{none}
 use borrow.Author.Tests.{eqb-true}
 use Rattle.octets.specs.Words.{every, ◌=?◌}
-use Rattle.octets.specs.Bytes.{same}
 use Rattle.octets.proofs.Tests.{and_left, and_right}
 use Rattle.utf8.specs.Utf8 as utf8
 use Rattle.callsigns.specs.Runs as runs
@@ -58,7 +57,7 @@ as_many n slip l e t = record { numbers = λ i. e i ∙ of-order slip n i; slips
 -- ---- a load of no image at all is refused, and leaves the table as it was
 
 no-image : table_of [] ≡ none
-unfolding table_of same
+unfolding table_of
 no-image = refl
 
 no-image-refused : (t : Table) → keeps_table t ≡ true → (load_of t []).answer ≡ refused 16
@@ -93,7 +92,7 @@ record More : Type 0 where
   relabelled-ends : Ends relabelled
 
 pub computed : Computed
-unfolding same utf8.run runs.run runs.rest alnum suffix base_length callsign same_call text_byte ruled id_text stream_id same_key key_of is_no_key keeps_key named_of keeps_row is_no_row stream.keeps stream.offer stream.take stream.force keeps_slot has_key keeps_slots table.look_up
+unfolding utf8.run runs.run runs.rest alnum suffix base_length callsign same_call text_byte ruled id_text stream_id same_key key_of is_no_key keeps_key named_of keeps_row is_no_row stream.keeps stream.offer stream.take stream.force keeps_slot has_key keeps_slots table.look_up
 computed = record {
   forward-comes = record { answers-are = refl; offers-are = refl; accepts-are = refl; list-is = refl };
   mixed-comes = record { answers-are = refl; offers-are = refl; accepts-are = refl; list-is = refl };
@@ -109,7 +108,7 @@ computed = record {
 }
 
 more : More
-unfolding same utf8.run runs.run runs.rest alnum suffix base_length callsign same_call text_byte ruled id_text stream_id same_key key_of is_no_key keeps_key named_of keeps_row is_no_row stream.keeps stream.offer stream.take stream.force keeps_slot has_key keeps_slots table.look_up
+unfolding utf8.run runs.run runs.rest alnum suffix base_length callsign same_call text_byte ruled id_text stream_id same_key key_of is_no_key keeps_key named_of keeps_row is_no_row stream.keeps stream.offer stream.take stream.force keeps_slot has_key keeps_slots table.look_up
 more = record {
   forward-fresh =
       let a = no-row-yet begins (empty-row key) in

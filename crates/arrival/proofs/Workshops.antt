@@ -19,7 +19,7 @@ use Rattle.rows.specs.Stream as row
 use Rattle.rows.specs.Row.{held_in, stream_of, row_of, offer_of}
 use Rattle.rows.proofs.Rules.{kept_row, keep, unpacks}
 use Rattle.rows.proofs.Keeps.{fresh_keeps}
-use Rattle.lookups.specs.declared.Lookup.{Lookup}
+use Rattle.lookups.specs.Lookup.{Lookup}
 use Rattle.streams.specs.declared.Table.{Table}
 use Rattle.streams.specs.Table.{keeps_table}
 use Rattle.streams.specs.Calls.{look_up}

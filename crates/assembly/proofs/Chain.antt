@@ -24,7 +24,7 @@ use Rattle.groupcalls.specs.Calls.{with_fragment, new_group, sweep, swept_group}
 use Rattle.groupcalls.proofs.Tests.{Ranged, pieces_kept, group-kept}
 use Rattle.groupcalls.proofs.Moves.{Move, joining, opening, add-moves, Taking, taking, collect-takes}
 use Rattle.fragments.specs.Store.{store_place, store_after, out_after}
-use Rattle.assembly.specs.History.{Names, named, key_for, Arrival, fragment, Call, adding, collecting, sweeping, House, outcome, bytes_after, after, History, Reached, fresh, next, first_time, accepted, with_call, since, buffer_after, Delivered}
+use Rattle.assembly.specs.History.{Names, named, key_for, Arrival, fragment, Call, adding, collecting, sweeping, House, outcome, bytes_after, History, Reached, fresh, next, first_time, accepted, with_call, since, buffer_after, Delivered}
 use Rattle.assembly.proofs.Rules.{some_at, free-key, open-key, total_kept}
 use Rattle.assembly.proofs.Keeps.{empty-keeps, add-keeps, collect-keeps, sweep-keeps}
 use Rattle.assembly.proofs.Parts.{parts_none, parts_add}
@@ -82,7 +82,7 @@ Next w c said o store = Good o.after store (λ k. if accepted o.answer then with
 step-add : (w : House) (a : Names) (f : Arrival) (said : Key → List Arrival) → Good w.groups w.store said
     → Next w (adding a f) said (outcome w (adding a f)) (bytes_after w (adding a f))
 step-add w a f said o =
-    go (outcome w (adding a f)) (add-moves t (length w.store) (named a) (fragment f)) (add-keeps t (length w.store) a.has a.originator a.master (fragment f) o.keeps)
+    go (outcome w (adding a f)) (add-moves t (length w.store) (named a) (fragment f)) (add-keeps t (length w.store) a.originator a.master (fragment f) o.keeps)
   where
     t : Groups
     t = w.groups

@@ -1,20 +1,22 @@
 -- THEOREM: every call returns groups that keep the rules, if it is handed such.
 use Rattle.std.specs.Prelude.{if◌then◌else◌}
 use mathlib.Core.Path.{◌≡◌, refl, ◌∙◌}
-use Prim.Native.Nat.{ℕ, ◌-◌, ◌≤◌}
+use Prim.Native.Nat.{ℕ, ◌-◌}
 use mathlib.Core.Bool.{Bool, true, false}
 use mathlib.Core.List.{List, [], ◌∷◌, map}
 use lib.ListN.{length, set, length-set, length-map}
 use borrow.Author.Tests.{eq-eqb}
-use Rattle.octets.specs.Words.{◌and◌, ◌or◌, no, every, some, ◌≤?◌}
+use Rattle.octets.specs.Words.{◌and◌, no, every, some, ◌≤?◌}
 use Rattle.octets.proofs.Tests.{and_left, and_right, and_both, true-not-false}
 use Rattle.refusals.specs.Numbers.{state_broken}
 use Rattle.groupkeys.specs.declared.Key.{Key}
-use Rattle.groupkeys.specs.declared.Named.{Named}
+use Rattle.std.specs.Prelude.{Option, Result}
+use Rattle.refusals.specs.declared.Refusal.{Refusal}
+use Rattle.groupkeys.specs.declared.Key.{Key}
 use Rattle.groups.specs.declared.Group.{Group}
 use Rattle.groups.specs.declared.Groups.{Groups}
 use Rattle.field_rules.specs.Rules.{id_in}
-use Rattle.groupkeys.specs.Key.{keeps_key, named_of}
+use Rattle.groupkeys.specs.Key.{keeps_key, key_in, named_of}
 use Rattle.groups.specs.Groups.{free_group, has_key, complete, keeps_piece, keeps_group, keeps_groups, twice, distinct, group_at, with_group, empty}
 use Rattle.groupcalls.specs.declared.Fragment.{Fragment}
 use Rattle.groupcalls.specs.Answer.{Outcome, swept, refuse}
@@ -32,21 +34,21 @@ pub empty-keeps : keeps_groups empty ≡ true
 unfolding keeps_groups keeps_group keeps_piece keeps_key id_in
 empty-keeps = refl
 
-pub add-keeps : (t : Groups) (size : ℕ) (has : Bool) (o : List ℕ) (master : ℕ) (f : Fragment) → keeps_groups t ≡ true → keeps_groups (add t size (named_of has o master) f).after ≡ true
+pub add-keeps : (t : Groups) (size : ℕ) (o : Option (List ℕ)) (master : ℕ) (f : Fragment) → keeps_groups t ≡ true → keeps_groups (add t size (named_of o master) f).after ≡ true
 unfolding keeps_piece
-add-keeps t size has o master f e = go (add t size (named_of has o master) f) (add-moves t size (named_of has o master) f)
+add-keeps t size o master f e = go (add t size (named_of o master) f) (add-moves t size (named_of o master) f)
   where
-    go : (x : Outcome) → Move t size (named_of has o master) f x → keeps_groups x.after ≡ true
+    go : (x : Outcome) → Move t size (named_of o master) f x → keeps_groups x.after ≡ true
     go x (Move.refusing n) = e
     go x (joining {g} k z r b u v w) =
         let y = group_at t g in
         let s = group-kept t k g b in
         set_keeps t g (with_fragment y f) k (with-keeps y f r (open-key _ y u) v (pieces_kept y s).0 (pieces_kept y s).1 (key-kept y s)) (distinct-less t.items g (with_fragment y f) k.apart (λ q. (q, refl)))
     go x (opening {g} k z r b u v w) =
-        let y = new_group (named_of has o master).key f in
-        set_keeps t g (with_fragment y f) k (with-keeps y f r refl refl refl refl (named-keeps has o master w)) (distinct-new t.items g (with_fragment y f) k.apart v)
+        let y = new_group (key_in (named_of o master)) f in
+        set_keeps t g (with_fragment y f) k (with-keeps y f r refl refl refl refl (named-keeps o master w)) (distinct-new t.items g (with_fragment y f) k.apart v)
 
-pub collect-keeps : (t : Groups) (size : ℕ) (named : Named) (room : ℕ) → keeps_groups t ≡ true → keeps_groups (collect t size named room).after ≡ true
+pub collect-keeps : (t : Groups) (size : ℕ) (named : Result Key Refusal) (room : ℕ) → keeps_groups t ≡ true → keeps_groups (collect t size named room).after ≡ true
 collect-keeps t size named room e = go (collect t size named room) (collect-takes t size named room)
   where
     go : (x : Outcome) → Taking t size named room x → keeps_groups x.after ≡ true
@@ -97,6 +99,6 @@ module _ (time : ℕ) where
 -- ---- the theorem, of any call
 
 pub call-keeps : (w : House) (c : Call) → keeps_groups w.groups ≡ true → keeps_groups (after w c).groups ≡ true
-call-keeps w (adding a f) e = add-keeps w.groups (length w.store) a.has a.originator a.master (fragment f) e
+call-keeps w (adding a f) e = add-keeps w.groups (length w.store) a.originator a.master (fragment f) e
 call-keeps w (collecting a out) e = collect-keeps w.groups (length w.store) (named a) (length out) e
 call-keeps w (sweeping time) e = sweep-keeps time w.groups e

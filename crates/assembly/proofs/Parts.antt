@@ -8,7 +8,7 @@ use mathlib.Core.List.{List, [], ◌∷◌, ◌++◌}
 use lib.ListN.{length, get_or, set, take, drop, replicate, get_or-replicate}
 use lib.Seq.{get_or-set_same, get_or-set_other}
 use borrow.Author.Tests.{eq-eqb, ne_eqb}
-use Rattle.octets.specs.Words.{◌and◌, ◌or◌, every, some}
+use Rattle.octets.specs.Words.{◌and◌, every, some}
 use Rattle.octets.specs.Bytes.{placed}
 use Rattle.octets.proofs.Tests.{if_yes, if_no, and_both, or_left, or-next, no_false}
 use Rattle.groups.specs.declared.Piece.{Piece}

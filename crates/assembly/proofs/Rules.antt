@@ -6,17 +6,17 @@ use native.Mathlib.Omega.{arith}
 use mathlib.Core.Bool.{Bool, true, false}
 use mathlib.Core.List.{List, [], ◌∷◌}
 use lib.ListN.{length, get_or, set, length-set}
-use borrow.Author.Tests.{eq-eqb, lt-ltb, le-leb, eqb-true}
+use borrow.Author.Tests.{eq-eqb, lt-ltb, le-leb}
 use Rattle.octets.specs.Words.{◌and◌, ◌or◌, no, every, some, between, ◌=?◌}
 use Rattle.octets.proofs.Tests.{if_yes, and_left, and_right, and_both, and-next, true-not-false, inside, inside-low, inside-high}
-use Rattle.refusals.specs.Numbers.{no_callsign, fragment_malformed}
-use Rattle.callsigns.proofs.Lengths.{callsign-short}
 use Rattle.groupkeys.specs.declared.Key.{Key}
-use Rattle.groupkeys.specs.declared.Named.{Named}
+use Rattle.std.specs.Prelude.{Option, Result, Ok, Err}
+use Rattle.refusals.specs.declared.Refusal.{Refusal}
+use Rattle.refusals.specs.Refusals.{refusal_in}
 use Rattle.groups.specs.declared.Piece.{Piece}
 use Rattle.groups.specs.declared.Group.{Group}
 use Rattle.field_rules.specs.Rules.{id_in}
-use Rattle.groupkeys.specs.Key.{same_key, is_originator, is_master, looked_at, key_of, no_key, keeps_key, named_of}
+use Rattle.groupkeys.specs.Key.{same_key, is_originator, is_master, key_of, key_in, keeps_key, named_of}
 use Rattle.groups.specs.Groups.{place, is_held, free_group, has_key, keeps_piece, keeps_pieces, keeps_group, twice, distinct, past_group}
 use Rattle.groupkeys.proofs.Names.{key-keeps}
 use Rattle.groupkeys.proofs.SameKey.{same_key-sym}
@@ -180,19 +180,14 @@ unfolding keeps_group keeps_piece keeps_key id_in
 free-keeps = refl
 
 -- the key of the names that a call is given
-pub named-keeps : (has : Bool) (o : List ℕ) (master : ℕ) → (named_of has o master).refusal ≡ 0 → keeps_key (named_of has o master).key ≡ true
+pub named-keeps : (o : Option (List ℕ)) (master : ℕ) → refusal_in (named_of o master) ≡ 0 → keeps_key (key_in (named_of o master)) ≡ true
 unfolding named_of
-named-keeps has o master e = go (is_originator has (looked_at has o)) (is_master master) refl refl e
+named-keeps o master e = go (is_originator o) (is_master master) refl refl e
   where
-    named : Bool → Bool → Named
-    named a b =
-        if no a then record { refusal = no_callsign; key = no_key } else if no b then record { refusal = fragment_malformed; key = no_key } else record { refusal = 0; key = key_of has (looked_at has o) master }
+    named : Bool → Bool → Result Key Refusal
+    named a b = if no a then Err Refusal.NoCallsign else if no b then Err Refusal.FragmentMalformed else Ok (key_of o master)
 
-    room : (b : Bool) (s : List ℕ) → is_originator b s ≡ true → length s ≤ 12
-    room true s v = callsign-short s v
-    room false s v = let z = eqb-true (length s) 0 v in omega arith
-
-    go : (a b : Bool) → is_originator has (looked_at has o) ≡ a → is_master master ≡ b → (named a b).refusal ≡ 0 → keeps_key (named a b).key ≡ true
-    go true true p q z = key-keeps has (looked_at has o) master p (room has (looked_at has o) p) q
+    go : (a b : Bool) → is_originator o ≡ a → is_master master ≡ b → refusal_in (named a b) ≡ 0 → keeps_key (key_in (named a b)) ≡ true
+    go true true p q z = key-keeps o master p q
     go true false p q z = absurd (omega arith)
     go false b p q z = absurd (omega arith)

@@ -22,7 +22,7 @@ use Rattle.groupcalls.specs.Calls.{swept_group}
 use Rattle.groupcalls.proofs.Tests.{Ranged, kept, pieces_kept, group-kept}
 use Rattle.groupcalls.proofs.Moves.{not_free}
 use Rattle.fragments.specs.Store.{store_place, joined}
-use Rattle.fragments.proofs.Joins.{short-at}
+use Rattle.fragments.proofs.Joins.{all_short, short-at}
 use Rattle.assembly.specs.History.{Arrival, fragment, is_number, numbers, joined_by, total_of, first_time, whole, stale, in_order, agreed}
 use Rattle.assembly.proofs.Rules.{some_at, free-key, open-key, total_kept}
 use Rattle.assembly.proofs.Parts.{Parts, parts_stay, held_whole, joined-whole}
@@ -118,7 +118,7 @@ good-empty keeps store =
 
 -- the lengths of a group's places
 pub shorts : (x : Group) → keeps_group x ≡ true → (n : ℕ) → n < 16 → (get_or x.pieces n no_piece).len ≤ place
-shorts x k n h = let l = pieces_kept x k in short-at x.total x.pieces n l.1 (omega (arith, l.0))
+shorts x k n h = let l = pieces_kept x k in short-at x.pieces n (all_short x.total 0 x.pieces l.1) (omega (arith, l.0))
 
 -- ---- after an add: the group g is y, which has the key j and one fragment more
 module _ (t : Groups) (store : List ℕ) (said : Key → List Arrival) (o : Good t store said) (j : Key) (g : ℕ) (y : Group) (f : Arrival)

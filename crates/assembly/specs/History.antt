@@ -1,10 +1,10 @@
 -- Document 01, "Fragments", over many calls: the history of a house store, and what it says by itself of the fragments that were added under a key.
-use Rattle.std.specs.Prelude.{◌≡◌, ℕ, zero, suc, ◌-◌, ◌≤◌, Bool, true, false, List, [], ◌∷◌, ◌++◌, length, if◌then◌else◌}
+use Rattle.std.specs.Prelude.{◌≡◌, ℕ, zero, suc, ◌-◌, ◌≤◌, Bool, true, false, List, [], ◌∷◌, ◌++◌, length, Option, Result, if◌then◌else◌}
 use Rattle.octets.specs.Words.{◌and◌, no, every, some, between, ◌≤?◌, ◌=?◌}
 use Rattle.octets.specs.Bytes.{front}
+use Rattle.refusals.specs.declared.Refusal.{Refusal}
 use Rattle.groupkeys.specs.declared.Key.{Key}
-use Rattle.groupkeys.specs.declared.Named.{Named}
-use Rattle.groupkeys.specs.Key.{same_key, named_of}
+use Rattle.groupkeys.specs.Key.{same_key, key_in, named_of}
 use Rattle.groups.specs.declared.Groups.{Groups}
 use Rattle.groups.specs.Groups.{empty}
 use Rattle.groupcalls.specs.declared.Fragment.{Fragment}
@@ -16,15 +16,14 @@ use Rattle.fragments.specs.Store.{store_after, out_after}
 
 -- the names that a call is given: the originator, where there is one, and the master id
 pub record Names : Type 0 where
-  pub has : Bool
-  pub originator : List ℕ
+  pub originator : Option (List ℕ)
   pub master : ℕ
 
-abbrev pub named : Names → Named
-named a = named_of a.has a.originator a.master
+abbrev pub named : Names → Result Key Refusal
+named a = named_of a.originator a.master
 
 abbrev pub key_for : Names → Key
-key_for a = (named a).key
+key_for a = key_in (named a)
 
 -- fragment N of M, its bytes, and when it came
 pub record Arrival : Type 0 where

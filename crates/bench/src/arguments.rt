@@ -1,160 +1,141 @@
-// The arguments of a command, by the kind that its form names:
-// B bytes, O bytes of a name, T the same or `~` for absent, S a salt or `~` for none, M a master id, and numbers from 0 to a limit:
-// N 4294967295, H 65535, L the store's size, R 16,384, P the payload buffer's size, Q the reply buffer's, Y 255.
-ghost use Rattle.std.specs.Prelude.{◌-◌, ◌≤◌, length};
+// The words of a line, and what a word stands for: a number up to a limit, bytes, a salt, a master id.
+ghost use Rattle.std.specs.Prelude.{◌<◌, IfSome, length};
 
-use crate::buffers;
-use crate::command::{Command, DIGITS, is_byte, part, place_of};
+use crate::buffers::ROOM;
 use crate::say::is_plain;
-use text::{Id, Number, Signed};
 
-// What no word stands for: it is above every limit.
-const NONE: usize = 18446744073709551615;
+// The longest name that a command takes.
+pub(crate) const LONGEST_NAME: usize = 512;
 
-// The largest number of each kind, or the most bytes once decoded.
-fn limit(kind: u8) -> usize {
-    match kind {
-        b'O' | b'T' => 512,
-        b'B' | b'R' => buffers::ROOM,
-        b'H' => 65535,
-        b'L' => buffers::STORE,
-        b'P' => buffers::PAYLOAD,
-        b'Q' => buffers::REPLY,
-        b'Y' => 255,
-        _ => 4294967295,
-    }
-}
-
-// The command with one argument more, whose word begins at the place `at` of the line; no command where the word is not of its kind.
-pub(crate) fn with_argument(c: Command, kind: u8, word: &mut [u8], at: usize) -> Command {
-    match kind {
-        b'B' | b'O' | b'T' => with_bytes(c, kind, word, at),
-        b'M' => c.with_number(master_id(word), 0xFFFFFFF),
-        b'S' => with_salt(c, word),
-        _ => c.with_number(number(word), limit(kind)),
-    }
-}
-
-// With the bytes of one argument more, or absent.
-fn with_bytes(mut c: Command, kind: u8, word: &mut [u8], at: usize) -> Command {
-    if kind == b'T' && is_byte(word, b'~') {
-        c.is_absent = true;
-        return c;
-    }
-    let len = decode(word);
-    if len > limit(kind) {
-        return c.bad();
-    }
-    c.a_at = c.b_at;
-    c.a_len = c.b_len;
-    c.b_at = at;
-    c.b_len = len;
-    c
-}
-
-// A decimal without leading zero.
-fn number(word: &[u8]) -> usize {
-    let n = text::read_number(word, 4294967295);
-    match n {
-        Number::Is(v) => v as usize,
-        Number::Malformed => NONE,
-    }
-}
-
-// A master id: bytes that are 7 of `0-9a-f`.
-fn master_id(word: &mut [u8]) -> usize {
-    if decode(word) != 7 {
-        return NONE;
-    }
-    let id = text::read_id(part(word, 0, 7));
-    match id {
-        Id::Is(v) => v as usize,
-        Id::Malformed => NONE,
-    }
-}
-
-// A salt, or `~` for none.
-fn with_salt(mut c: Command, word: &[u8]) -> Command {
-    if is_byte(word, b'~') {
-        return c;
-    }
-    let salt = text::read_signed(word);
-    match salt {
-        Signed::Is(v) => {
-            c.has_salt = true;
-            c.salt = v;
-            c
-        }
-        Signed::Malformed => c.bad(),
-    }
-}
-
-// What stands at a place of a word, and how many of its bytes that takes; 0 where it stands for nothing.
+// The words of a line that are still to be read: what stands behind the last one's space, if there was one.
 #[derive(Clone, Copy)]
-struct Spelling {
-    byte: u8,
-    width: usize,
+pub(crate) struct Words<'a> {
+    rest: Option<&'a [u8]>,
 }
 
-// A byte from 0x21 to 0x7E but `%` stands for itself, `%XX` for the byte XX.
-fn spelled(word: &[u8], at: usize) -> Spelling
-    ensures { result.width ≤ length word.now - at }
-{
-    let none = Spelling { byte: 0, width: 0 };
-    if at >= word.len() {
-        return none;
-    }
-    let c = word[at];
-    if is_plain(c) {
-        return Spelling { byte: c, width: 1 };
-    }
-    if c != b'%' {
-        return none;
-    }
-    if word.len() - at < 3 {
-        return none;
-    }
-    let high = digit(word[at + 1]);
-    if high > 15 {
-        return none;
-    }
-    let low = digit(word[at + 2]);
-    if low > 15 {
-        return none;
-    }
-    Spelling {
-        byte: (high * 16 + low) as u8,
-        width: 3,
-    }
+// Bytes as a script writes them, each spelled well; no word is no bytes.
+#[derive(Clone, Copy)]
+pub(crate) struct Bytes<'a> {
+    word: &'a [u8],
 }
 
-// What a digit of `0-9A-F` is worth, which is its place among them; 16 for a byte that is none.
-fn digit(b: u8) -> usize
-    ensures { result ≤ 16 }
-{
-    let digits = DIGITS;
-    place_of(&digits, 0, b)
-}
+impl<'a> Words<'a> {
+    pub(crate) fn new(line: &'a [u8]) -> Words<'a> {
+        Words { rest: Some(line) }
+    }
 
-// The number of bytes that a word stands for, which are written over its front: `-` is no bytes.
-fn decode(word: &mut [u8]) -> usize {
-    if word.len() == 0 {
-        return NONE;
+    // The next word.
+    pub(crate) fn next(&mut self) -> Option<&'a [u8]> {
+        let rest = self.rest?;
+        let n = rest.iter().take_while(|b| **b != b' ').count();
+        self.rest = rest.get(n + 1..);
+        Some(&rest[..n])
     }
-    if is_byte(word, b'-') {
-        return 0;
+
+    // Whether the line has no more words.
+    pub(crate) fn ended(&self) -> bool {
+        self.rest.is_none()
     }
-    let mut n: usize = 0;
-    let mut i: usize = 0;
-    while i < word.len() {
-        let s = spelled(word, i);
-        let width = s.width;
-        if width == 0 {
-            return NONE;
+
+    // A decimal without leading zero.
+    pub(crate) fn number(&mut self, limit: u32) -> Option<u32> {
+        let n = text::read_number(self.next()?, u64::from(limit))?;
+        u32::try_from(n).ok()
+    }
+
+    // The same, as a length.
+    pub(crate) fn size(&mut self, limit: usize) -> Option<usize> {
+        let n = text::read_number(self.next()?, limit as u64)?;
+        usize::try_from(n).ok()
+    }
+
+    // A salt, or `~` for none.
+    pub(crate) fn salt(&mut self) -> Option<Option<i64>> {
+        match self.next()? {
+            [b'~'] => Some(None),
+            word => Some(Some(text::read_signed(word)?)),
         }
-        word[n] = s.byte;
-        n += 1;
-        i += width;
     }
-    n
+
+    // Bytes.
+    pub(crate) fn bytes(&mut self) -> Option<Bytes<'a>> {
+        Bytes::up_to(self.next()?, ROOM)
+    }
+
+    // The bytes of a name.
+    pub(crate) fn name(&mut self) -> Option<Bytes<'a>> {
+        Bytes::up_to(self.next()?, LONGEST_NAME)
+    }
+
+    // The bytes of a name, or `~` for absent.
+    pub(crate) fn name_or_absent(&mut self) -> Option<Option<Bytes<'a>>> {
+        match self.next()? {
+            [b'~'] => Some(None),
+            word => Some(Some(Bytes::up_to(word, LONGEST_NAME)?)),
+        }
+    }
+
+    // A master id: bytes that are 7 of `0-9a-f`.
+    pub(crate) fn master(&mut self) -> Option<u32> {
+        let bytes = Bytes::up_to(self.next()?, 7)?;
+        let mut room = [0u8; 7];
+        text::read_id(bytes.decoded(&mut room))
+    }
+}
+
+impl<'a> Bytes<'a> {
+    // The bytes that a word stands for, where they are no more than `most`.
+    fn up_to(word: &'a [u8], most: usize) -> Option<Bytes<'a>> {
+        if let [b'-'] = word {
+            return Some(Bytes { word: &[] });
+        }
+        let mut left = most;
+        let mut rest = word;
+        // At least one byte is spelled: a word of no characters is none.
+        loop {
+            let (_, behind) = spelled(rest)?;
+            left = left.checked_sub(1)?;
+            if behind.is_empty() {
+                return Some(Bytes { word });
+            }
+            rest = behind;
+        }
+    }
+
+    // The bytes, at the front of a room; as many of them as it has room for.
+    pub(crate) fn decoded<'b>(self, room: &'b mut [u8]) -> &'b [u8] {
+        let mut len: usize = 0;
+        let mut rest = self.word;
+        while let Some((byte, behind)) = spelled(rest) {
+            if len == room.len() {
+                break;
+            }
+            room[len] = byte;
+            len += 1;
+            rest = behind;
+        }
+        &room[..len]
+    }
+}
+
+// The first byte that is spelled, and what stands behind it: a byte from 0x21 to 0x7E but `%` stands for itself, `%XX` for the byte XX.
+fn spelled(word: &[u8]) -> Option<(u8, &[u8])>
+    ensures { IfSome result (λ x. length x.1.now < length word.now) }
+{
+    match word {
+        [b'%', high, low, behind @ ..] => Some((digit(*high)? * 16 + digit(*low)?, behind)),
+        [byte, behind @ ..] if is_plain(*byte) => Some((*byte, behind)),
+        _ => None,
+    }
+}
+
+// What a digit of `0-9A-F` is worth.
+fn digit(b: u8) -> Option<u8>
+    ensures { IfSome result (λ d. d < 16) }
+{
+    match b {
+        b'0'..=b'9' => Some(b - b'0'),
+        b'A'..=b'F' => Some(b - b'A' + 10),
+        _ => None,
+    }
 }

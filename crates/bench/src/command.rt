@@ -1,117 +1,174 @@
-// A command by value: which it is, and its arguments, as numbers and as places of the decoded line.
-ghost use Rattle.std.specs.Prelude.{◌≤◌, length};
+// A script's line, parsed: which command it is, with its arguments.
+use crate::arguments::{Bytes, Words};
+use crate::buffers::{PAYLOAD, REPLY, ROOM, STORE};
 
-// The number of a command that is none.
-pub(crate) const BAD: u8 = 255;
+// A longer line is one `bad command`.
+pub(crate) const LONGEST_LINE: usize = 49999;
 
-// The digits of a byte in a script, `%XX`.
-pub(crate) const DIGITS: [u8; 16] = *b"0123456789ABCDEF";
+// The largest number of a fragment.
+const LARGEST_FRAGMENT: usize = 65535;
 
-// The number of a line that has no answer.
-pub(crate) const SILENT: u8 = 254;
-
-// The verb is the number of the command's form. Its last number is `t`, which is a time or a room; the numbers before it are `z`, `y`, `x`. Its
-// last bytes stand at the place `b_at` of the line, those before it at `a_at`. An absent argument is no bytes.
+// A stream, by the names of its key.
 #[derive(Clone, Copy)]
-pub(crate) struct Command {
-    pub(crate) verb: u8,
-    pub(crate) x: u32,
-    pub(crate) y: u32,
-    pub(crate) z: u32,
-    pub(crate) t: u32,
-    pub(crate) a_at: usize,
-    pub(crate) a_len: usize,
-    pub(crate) b_at: usize,
-    pub(crate) b_len: usize,
-    pub(crate) is_absent: bool,
-    pub(crate) has_salt: bool,
-    pub(crate) salt: i64,
+pub(crate) struct Stream<'a> {
+    pub(crate) originator: Bytes<'a>,
+    pub(crate) id: Bytes<'a>,
 }
 
-impl Command {
-    // A command without arguments.
-    pub(crate) fn new(verb: u8) -> Command {
-        Command {
-            verb,
-            x: 0,
-            y: 0,
-            z: 0,
-            t: 0,
-            a_at: 0,
-            a_len: 0,
-            b_at: 0,
-            b_len: 0,
-            is_absent: false,
-            has_salt: false,
-            salt: 0,
+// A message that is offered to a stream.
+#[derive(Clone, Copy)]
+pub(crate) struct Offer {
+    pub(crate) number: u32,
+    pub(crate) timeout: u32,
+    pub(crate) slip: u32,
+    pub(crate) time: u32,
+}
+
+// A group of fragments, by what its key is made of.
+#[derive(Clone, Copy)]
+pub(crate) struct Group<'a> {
+    pub(crate) originator: Option<Bytes<'a>>,
+    pub(crate) master: u32,
+}
+
+// Fragment `number` of `total`.
+#[derive(Clone, Copy)]
+pub(crate) struct Fragment<'a> {
+    pub(crate) number: usize,
+    pub(crate) total: usize,
+    pub(crate) time: u32,
+    pub(crate) bytes: Bytes<'a>,
+}
+
+// A buffer that calls are lent, at which one may look.
+#[derive(Clone, Copy)]
+pub(crate) enum Buffer {
+    Payload,
+    Reply,
+    Store,
+}
+
+// `Bad` is a line that is no command.
+#[derive(Clone, Copy)]
+pub(crate) enum Command<'a> {
+    Bad,
+    Sha1(Bytes<'a>),
+    Crc(Bytes<'a>),
+    Utf8(Bytes<'a>),
+    Id(Option<i64>, Bytes<'a>),
+    Line(Bytes<'a>),
+    Reline(Bytes<'a>, usize),
+    Datagram(Bytes<'a>),
+    Redatagram(Bytes<'a>, usize),
+    Lend(usize, usize),
+    Store(usize),
+    Fill(u8),
+    Peek(Buffer, usize, usize),
+    Open,
+    Feed(Bytes<'a>),
+    Offer(Stream<'a>, Offer),
+    Take(Stream<'a>, u32),
+    Force(Stream<'a>, u32),
+    Close(Stream<'a>),
+    Save(usize),
+    Load(Bytes<'a>),
+    Fragment(Group<'a>, Fragment<'a>),
+    Collect(Group<'a>, usize),
+    Sweep(u32),
+}
+
+impl<'a> Command<'a> {
+    // The command that a line is; an empty line and a comment have no answer.
+    pub(crate) fn parse(line: &'a [u8]) -> Option<Command<'a>> {
+        match line {
+            _ if line.len() > LONGEST_LINE => Some(Command::Bad),
+            [] | [b'#', ..] => None,
+            _ => Some(Command::read(line).unwrap_or(Command::Bad)),
         }
     }
 
-    // Not a command after all.
-    pub(crate) fn bad(mut self) -> Command {
-        self.verb = BAD;
-        self
-    }
-
-    // With one number more, which has to keep its limit.
-    pub(crate) fn with_number(mut self, v: usize, limit: usize) -> Command {
-        if v > limit {
-            return self.bad();
+    // The command of a line that has its words and no more.
+    fn read(line: &'a [u8]) -> Option<Command<'a>> {
+        let mut words = Words::new(line);
+        let command = read_command(&mut words)?;
+        if !words.ended() {
+            return None;
         }
-        if v > 4294967295 {
-            return self.bad();
-        }
-        self.x = self.y;
-        self.y = self.z;
-        self.z = self.t;
-        self.t = v as u32;
-        self
+        Some(command)
     }
 }
 
-// The part of some bytes that begins at `at` and has `len` of them, or as many as there are.
-pub(crate) fn part(s: &[u8], at: usize, len: usize) -> &[u8] {
-    let from = within(at, s.len());
-    let n = within(len, s.len() - from);
-    &s[from..from + n]
+// The command that a line's first word names, with its arguments.
+fn read_command<'a>(words: &mut Words<'a>) -> Option<Command<'a>> {
+    let command = match words.next()? {
+        b"sha1" => Command::Sha1(words.bytes()?),
+        b"crc" => Command::Crc(words.bytes()?),
+        b"utf8" => Command::Utf8(words.bytes()?),
+        b"id" => Command::Id(words.salt()?, words.bytes()?),
+        b"line" => Command::Line(words.bytes()?),
+        b"reline" => Command::Reline(words.bytes()?, words.size(ROOM)?),
+        b"datagram" => Command::Datagram(words.bytes()?),
+        b"redatagram" => Command::Redatagram(words.bytes()?, words.size(ROOM)?),
+        b"lend" => Command::Lend(words.size(PAYLOAD)?, words.size(REPLY)?),
+        b"store" => Command::Store(words.size(STORE)?),
+        b"fill" => Command::Fill(u8::try_from(words.number(255)?).ok()?),
+        b"peek" => read_peek(words)?,
+        b"open" => Command::Open,
+        b"feed" => Command::Feed(words.bytes()?),
+        b"offer" => Command::Offer(read_stream(words)?, read_offer(words)?),
+        b"take" => Command::Take(read_stream(words)?, words.number(u32::MAX)?),
+        b"force" => Command::Force(read_stream(words)?, words.number(u32::MAX)?),
+        b"close" => Command::Close(read_stream(words)?),
+        b"save" => Command::Save(words.size(ROOM)?),
+        b"load" => Command::Load(words.bytes()?),
+        b"fragment" => read_fragment(words)?,
+        b"collect" => Command::Collect(read_group(words)?, words.size(ROOM)?),
+        b"sweep" => Command::Sweep(words.number(u32::MAX)?),
+        _ => return None,
+    };
+    Some(command)
 }
 
-// The same part, lent.
-pub(crate) fn lent(s: &mut [u8], at: usize, len: usize) -> &mut [u8] {
-    let from = within(at, s.len());
-    let n = within(len, s.len() - from);
-    &mut s[from..from + n]
+fn read_peek<'a>(words: &mut Words<'a>) -> Option<Command<'a>> {
+    let (buffer, size) = match words.next()? {
+        b"payload" => (Buffer::Payload, PAYLOAD),
+        b"reply" => (Buffer::Reply, REPLY),
+        b"store" => (Buffer::Store, STORE),
+        _ => return None,
+    };
+    Some(Command::Peek(buffer, words.size(size)?, words.size(ROOM)?))
 }
 
-// Whether a word is this byte alone.
-pub(crate) fn is_byte(word: &[u8], b: u8) -> bool {
-    if word.len() != 1 {
-        return false;
-    }
-    word[0] == b
+fn read_stream<'a>(words: &mut Words<'a>) -> Option<Stream<'a>> {
+    Some(Stream {
+        originator: words.name()?,
+        id: words.name()?,
+    })
 }
 
-// The lesser of a length that is asked for and the one that is there.
-pub(crate) fn within(n: usize, len: usize) -> usize
-    ensures { (result ≤ len) × (result ≤ n) }
-{
-    if n < len {
-        return n;
-    }
-    len
+fn read_offer(words: &mut Words) -> Option<Offer> {
+    Some(Offer {
+        number: words.number(u32::MAX)?,
+        timeout: words.number(u32::MAX)?,
+        slip: words.number(u32::MAX)?,
+        time: words.number(u32::MAX)?,
+    })
 }
 
-// The place of the next `b` from the place `at` on, or the number of bytes where there is none.
-pub(crate) fn place_of(s: &[u8], at: usize, b: u8) -> usize
-    requires { at ≤ length s.now }
-    ensures { (at ≤ result) × (result ≤ length s.now) }
-{
-    let mut i = at;
-    while i < s.len() {
-        if s[i] == b {
-            return i;
-        }
-        i += 1;
-    }
-    i
+fn read_group<'a>(words: &mut Words<'a>) -> Option<Group<'a>> {
+    Some(Group {
+        originator: words.name_or_absent()?,
+        master: words.master()?,
+    })
+}
+
+fn read_fragment<'a>(words: &mut Words<'a>) -> Option<Command<'a>> {
+    let group = read_group(words)?;
+    let fragment = Fragment {
+        number: words.size(LARGEST_FRAGMENT)?,
+        total: words.size(LARGEST_FRAGMENT)?,
+        time: words.number(u32::MAX)?,
+        bytes: words.bytes()?,
+    };
+    Some(Command::Fragment(group, fragment))
 }

@@ -1,79 +1,84 @@
 // The commands on the fragment groups and their store: `fragment`, `collect` and `sweep`.
-use crate::buffers::ROOM;
-use crate::command::{Command, lent};
-use crate::say::{refused, say, say_bytes};
-use crate::{forms, say};
-use node::{GroupAnswer, Groups, GroupsServed};
+use crate::arguments::LONGEST_NAME;
+use crate::buffers::{self, ROOM};
+use crate::command::{Command, Fragment, Group};
+use crate::say;
+use node::Groups;
 use std::io;
 
 pub(crate) fn obey(
     out: &impl Print,
-    c: Command,
-    a: &[u8],
-    b: &[u8],
-    groups: Groups,
-    store_len: usize,
-    memory: &mut [u8],
-) -> io::Result<Groups> {
-    let verb = c.verb;
-    match verb {
-        forms::FRAGMENT => fragment(out, c, a, b, groups, lent(memory, 0, store_len)),
-        forms::COLLECT => collect(out, c, b, groups, lent(memory, 0, store_len)),
-        forms::SWEEP => served(out, node::sweep_groups(groups, c.t), b),
-        _ => Ok(groups),
+    command: Command,
+    groups: &mut Groups,
+    store: &mut [u8],
+) -> io::Result<()> {
+    match command {
+        Command::Fragment(group, fragment) => add(out, group, fragment, groups, store),
+        Command::Collect(group, len) => collect(out, group, len, groups, store),
+        Command::Sweep(time) => {
+            let swept = node::sweep_groups(*groups, time);
+            *groups = swept.groups;
+            match swept.answer {
+                Ok(()) => print!(out; "swept"),
+                Err(refusal) => say::refused(out, refusal),
+            }
+        }
+        _ => Ok(()),
     }
 }
 
-fn fragment(
+fn add(
     out: &impl Print,
-    c: Command,
-    originator: &[u8],
-    bytes: &[u8],
-    groups: Groups,
+    group: Group,
+    fragment: Fragment,
+    groups: &mut Groups,
     store: &mut [u8],
-) -> io::Result<Groups> {
-    let s = node::add_fragment(
-        groups,
-        store,
-        !c.is_absent,
-        originator,
-        c.x,
-        c.y as usize,
-        c.z as usize,
+) -> io::Result<()> {
+    let mut name = [0u8; LONGEST_NAME];
+    let mut room = [0u8; ROOM];
+    let Fragment {
+        number,
+        total,
+        time,
         bytes,
-        c.t,
+    } = fragment;
+    let served = node::add_fragment(
+        *groups,
+        store,
+        group.originator.map(|o| o.decoded(&mut name)),
+        group.master,
+        number,
+        total,
+        bytes.decoded(&mut room),
+        time,
     );
-    served(out, s, bytes)
+    *groups = served.groups;
+    match served.answer {
+        Ok(_) => print!(out; "accepted"),
+        Err(refusal) => say::refused(out, refusal),
+    }
 }
 
-// Into as many lent bytes as the command's last number.
+// Into `len` lent bytes.
 fn collect(
     out: &impl Print,
-    c: Command,
-    originator: &[u8],
-    groups: Groups,
-    store: &mut [u8],
-) -> io::Result<Groups> {
+    group: Group,
+    len: usize,
+    groups: &mut Groups,
+    store: &[u8],
+) -> io::Result<()> {
+    let mut name = [0u8; LONGEST_NAME];
     let mut room = [0u8; ROOM];
-    let s = node::collect_group(
-        groups,
+    let served = node::collect_group(
+        *groups,
         store,
-        !c.is_absent,
-        originator,
-        c.z,
-        lent(&mut room, 0, c.t as usize),
+        group.originator.map(|o| o.decoded(&mut name)),
+        group.master,
+        buffers::first(&mut room, len),
     );
-    served(out, s, &room)
-}
-
-// What a call came to; a collected group stands at the front of `room`.
-fn served(out: &impl Print, s: GroupsServed, room: &[u8]) -> io::Result<Groups> {
-    let answer = s.answer;
-    match answer {
-        GroupAnswer::Added(_) => say(out, say::ACCEPTED)?,
-        GroupAnswer::Collected(_, n) => say_bytes(out, say::JOINED, room, n)?,
-        GroupAnswer::Swept => say(out, say::SWEPT)?,
-        GroupAnswer::Refused(number) => refused(out, number)?,
+    *groups = served.groups;
+    match served.answer {
+        Ok(collected) => say::front(out, "joined ", &room, collected.len),
+        Err(refusal) => say::refused(out, refusal),
     }
-    Ok(s.groups)
 }

@@ -1,5 +1,5 @@
 // The bench: reads a script from standard input, makes the call that each command names, and writes its answer.
-// A line is parsed to a command (forms, arguments), and the area that the command belongs to obeys it and says its answer (say).
+// A line is parsed to a command (command, arguments), and the area that the command belongs to obeys it and says its answer (say).
 // A read or a write that fails ends the run with its error.
 #![tactic(auto)]
 
@@ -7,7 +7,6 @@ mod arguments;
 mod buffers;
 mod command;
 mod fields;
-mod forms;
 mod fragment_calls;
 mod messages;
 mod say;

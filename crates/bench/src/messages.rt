@@ -1,25 +1,35 @@
 // The commands that keep nothing: hashes and ids, and lines and datagrams, read, or read and written again.
-use crate::buffers::ROOM;
-use crate::command::{BAD, Command, lent};
-use crate::say::{refused, say, say_bytes, say_id, say_number};
-use crate::{fields, forms, say};
-use node::{
-    DatagramReading, DatagramWriting, Hash, IdAnswer, LineReading, LineWriting, Salt, Sha1,
-};
+use crate::arguments::Bytes;
+use crate::buffers::{self, ROOM};
+use crate::command::Command;
+use crate::{fields, say};
+use node::{Hash, Refusal, Sha1};
 use std::io;
 
-pub(crate) fn obey(out: &impl Print, c: Command, b: &[u8]) -> io::Result<()> {
-    let verb = c.verb;
-    match verb {
-        forms::SHA1 => sha1(out, Sha1::new().feed_all(b).finish()),
-        forms::CRC => crc(out, node::crc(b)),
-        forms::UTF8 => utf8(out, b),
-        forms::ID => id(out, c.has_salt, c.salt, b),
-        forms::LINE => read_line(out, b, false, 0),
-        forms::RELINE => read_line(out, b, true, c.t),
-        forms::DATAGRAM => read_datagram(out, b, false, 0),
-        forms::REDATAGRAM => read_datagram(out, b, true, c.t),
-        BAD => say(out, say::BAD_COMMAND),
+pub(crate) fn obey(out: &impl Print, command: Command) -> io::Result<()> {
+    let mut room = [0u8; ROOM];
+    match command {
+        Command::Sha1(bytes) => sha1(out, Sha1::new().feed_all(bytes.decoded(&mut room)).finish()),
+        Command::Crc(bytes) => print!(out; "{:04x}", node::crc(bytes.decoded(&mut room))),
+        Command::Utf8(bytes) if node::well_formed(bytes.decoded(&mut room)) => print!(out; "yes"),
+        Command::Utf8(_) => print!(out; "no"),
+        Command::Id(salt, payload) => match node::message_id(salt, payload.decoded(&mut room)) {
+            Ok(id) => print!(out; "id {id:07x}"),
+            Err(refusal) => say::refused(out, refusal),
+        },
+        Command::Line(line) => match node::read_line(line.decoded(&mut room)) {
+            Ok(line) => {
+                print!(out; "ok")?;
+                fields::say_line(out, &line)
+            }
+            Err(refusal) => say::refused(out, refusal),
+        },
+        Command::Datagram(bytes) => match node::read_datagram(bytes.decoded(&mut room)) {
+            Ok(read) => fields::say_datagram(out, &read),
+            Err(refusal) => say::refused(out, refusal),
+        },
+        Command::Reline(line, len) => reline(out, line, len),
+        Command::Redatagram(datagram, len) => redatagram(out, datagram, len),
         _ => Ok(()),
     }
 }
@@ -29,66 +39,39 @@ fn sha1(out: &impl Print, h: Hash) -> io::Result<()> {
     print!(out; "{a:08x}{b:08x}{c:08x}{d:08x}{e:08x}")
 }
 
-fn crc(out: &impl Print, n: u16) -> io::Result<()> {
-    print!(out; "{n:04x}")
-}
-
-fn utf8(out: &impl Print, bytes: &[u8]) -> io::Result<()> {
-    if node::well_formed(bytes) {
-        return say(out, say::YES);
-    }
-    say(out, say::NO)
-}
-
-fn id(out: &impl Print, given: bool, value: i64, bytes: &[u8]) -> io::Result<()> {
-    let id = node::message_id(Salt { given, value }, bytes);
-    match id {
-        IdAnswer::Is(v) => say_id(out, say::ID_IS, v),
-        IdAnswer::Refused(number) => refused(out, number),
-    }
-}
-
-// The line's fields, or the line written again into `len` lent bytes.
-fn read_line(out: &impl Print, bytes: &[u8], again: bool, len: u32) -> io::Result<()> {
-    let r = node::read_line(bytes);
-    let reading = r.reading;
-    if let LineReading::Refused(number) = reading {
-        return refused(out, number);
-    }
-    if !again {
-        return fields::say_line(out, say::OK, r.line);
-    }
+// A line, read and written again into `len` lent bytes.
+fn reline(out: &impl Print, line: Bytes, len: usize) -> io::Result<()> {
+    let mut from = [0u8; ROOM];
     let mut room = [0u8; ROOM];
-    let w = node::write_line(r.line, lent(&mut room, 0, len as usize));
-    say_line_again(out, w, &room)
-}
-
-fn say_line_again(out: &impl Print, w: LineWriting, room: &[u8]) -> io::Result<()> {
-    match w {
-        LineWriting::Written(len) => say_bytes(out, say::REWRITTEN, room, len),
-        LineWriting::Refused(number) => say_number(out, say::UNWRITTEN, number as u32),
+    match node::read_line(line.decoded(&mut from)) {
+        Ok(line) => {
+            let written = node::write_line(line, buffers::first(&mut room, len));
+            say_again(out, written, &room)
+        }
+        Err(refusal) => say::refused(out, refusal),
     }
 }
 
-// The datagram's fields, or the datagram written again into `len` lent bytes.
-fn read_datagram(out: &impl Print, bytes: &[u8], again: bool, len: u32) -> io::Result<()> {
-    let r = node::read_datagram(bytes);
-    let reading = r.reading;
-    if let DatagramReading::Refused(number) = reading {
-        return refused(out, number);
-    }
-    if !again {
-        return fields::say_datagram(out, r.message, r.payload_at, r.payload_len);
-    }
-    let payload = node::payload(bytes, r.payload_at, r.payload_len);
+// A datagram, read and written again into `len` lent bytes.
+fn redatagram(out: &impl Print, datagram: Bytes, len: usize) -> io::Result<()> {
+    let mut from = [0u8; ROOM];
     let mut room = [0u8; ROOM];
-    let w = node::write_datagram(r.message, payload, lent(&mut room, 0, len as usize));
-    say_datagram_again(out, w, &room)
+    let bytes = datagram.decoded(&mut from);
+    match node::read_datagram(bytes) {
+        Ok(read) => {
+            let payload = node::payload(bytes, read.payload_at, read.payload_len);
+            let lent = buffers::first(&mut room, len);
+            let written = node::write_datagram(read.message, payload, lent);
+            say_again(out, written, &room)
+        }
+        Err(refusal) => say::refused(out, refusal),
+    }
 }
 
-fn say_datagram_again(out: &impl Print, w: DatagramWriting, room: &[u8]) -> io::Result<()> {
-    match w {
-        DatagramWriting::Written(len) => say_bytes(out, say::REWRITTEN, room, len),
-        DatagramWriting::Refused(number) => say_number(out, say::UNWRITTEN, number as u32),
+// What was written stands at the front of `room`.
+fn say_again(out: &impl Print, written: Result<usize, Refusal>, room: &[u8]) -> io::Result<()> {
+    match written {
+        Ok(len) => say::front(out, "rewritten ", room, len),
+        Err(refusal) => print!(out; "unwritten {}", refusal.number()),
     }
 }

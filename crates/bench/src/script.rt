@@ -1,16 +1,26 @@
 // The script: standard input cut into lines, each answered as soon as it is read.
-use crate::buffers::{MEMORY, REPLY};
-use crate::command::part;
-use crate::{buffers, forms, fragment_calls, messages, say, sessions, stream_calls};
-use node::{Groups, Table};
+ghost use Rattle.std.specs.Prelude.{◌≤◌, IfOk};
+
+use crate::buffers::{Lent, MEMORY, REPLY, STORE};
+use crate::command::{Command, LONGEST_LINE};
+use crate::{buffers, fragment_calls, messages, sessions, stream_calls};
+use node::{Groups, Session, Table};
 use std::io;
 use std::io::Read;
 
 // The room for a line: its longest and one byte more, by which a line that is too long is known.
-pub(crate) const LINE: usize = forms::LONGEST_LINE + 1;
+pub(crate) const LINE: usize = LONGEST_LINE + 1;
 
-// Answers a whole script. Each area is handed each command with what the area keeps from one to the next; only the one that the command
-// belongs to changes anything, and says its answer.
+// What is kept from one command to the next: the session, once there is one, the stream table, the groups, and how much of the buffers is lent.
+#[derive(Clone, Copy)]
+struct Kept {
+    session: Option<Session>,
+    table: Table,
+    groups: Groups,
+    lent: Lent,
+}
+
+// Answers a whole script.
 // Nothing says that the input ends, and a proved loop has to; so it counts its turns, up to a number that no run comes to.
 pub(crate) fn run(
     rt: &(impl Input + Print),
@@ -19,27 +29,53 @@ pub(crate) fn run(
     replies: &mut [u8; REPLY],
 ) -> io::Result<()> {
     let mut input = rt.reader();
-    let mut session = sessions::none();
-    let mut table = Table::new();
-    let mut groups = Groups::new();
-    let mut lent = buffers::whole();
+    let mut kept = Kept {
+        session: None,
+        table: Table::new(),
+        groups: Groups::new(),
+        lent: Lent::whole(),
+    };
     for _ in 0..u64::MAX {
         let got = read_line(&mut input, line)?;
-        let c = forms::parse(line, got.len);
-        let decoded: &[u8] = line;
-        let a = part(decoded, c.a_at, c.a_len);
-        let b = part(decoded, c.b_at, c.b_len);
-        session = sessions::obey(rt, c, b, session, lent, memory, replies)?;
-        table = stream_calls::obey(rt, c, a, b, table)?;
-        groups = fragment_calls::obey(rt, c, a, b, groups, lent.store, memory)?;
-        lent = buffers::obey(rt, c, lent, memory, replies)?;
-        messages::obey(rt, c, b)?;
-        say::end(rt, c.verb)?;
+        if let Some(command) = Command::parse(&line[..got.len]) {
+            obey(rt, command, &mut kept, memory, replies)?;
+            println!(rt; "")?;
+        }
         if got.ended {
             break;
         }
     }
     Ok(())
+}
+
+// Makes the call that a command names, and says its answer. Each area is handed what it keeps, and makes the calls that are its own.
+fn obey(
+    out: &impl Print,
+    command: Command,
+    kept: &mut Kept,
+    memory: &mut [u8; MEMORY],
+    replies: &mut [u8; REPLY],
+) -> io::Result<()> {
+    let lent = kept.lent;
+    match command {
+        Command::Open | Command::Feed(_) => {
+            let payload = buffers::first(&mut memory[STORE..], lent.payload);
+            let reply = buffers::first(replies, lent.reply);
+            sessions::obey(out, command, &mut kept.session, payload, reply)
+        }
+        Command::Fragment(_, _) | Command::Collect(_, _) | Command::Sweep(_) => {
+            let store = buffers::first(&mut memory[..STORE], lent.store);
+            fragment_calls::obey(out, command, &mut kept.groups, store)
+        }
+        Command::Lend(_, _) | Command::Store(_) | Command::Fill(_) | Command::Peek(_, _, _) => {
+            buffers::obey(out, command, &mut kept.lent, memory, replies)
+        }
+        Command::Bad => print!(out; "bad command"),
+        _ => {
+            messages::obey(out, command)?;
+            stream_calls::obey(out, command, &mut kept.table)
+        }
+    }
 }
 
 // A line's length in its buffer, and whether the input ended with it.
@@ -50,23 +86,20 @@ struct Got {
 }
 
 // Reads a line up to its LF or the input's end: a byte at a time, so that none behind the line is taken before the line is answered.
-fn read_line(input: &mut impl Read, line: &mut [u8; LINE]) -> io::Result<Got> {
+// Past the room for a line no byte is kept.
+fn read_line(input: &mut impl Read, line: &mut [u8; LINE]) -> io::Result<Got>
+    ensures { IfOk result (λ got. got.len ≤ 50000) }
+{
     let mut len: usize = 0;
     for read in input.by_ref().bytes() {
         let byte = read?;
         if byte == b'\n' {
             return Ok(Got { len, ended: false });
         }
-        len = keep(line, len, byte);
+        if len < LINE {
+            line[len] = byte;
+            len += 1;
+        }
     }
     Ok(Got { len, ended: true })
-}
-
-// A line's length with one byte more; past its room no byte is kept.
-fn keep(line: &mut [u8; LINE], len: usize, b: u8) -> usize {
-    if len >= LINE {
-        return len;
-    }
-    line[len] = b;
-    len + 1
 }

@@ -1,101 +1,77 @@
 // `open` and `feed B`: the receiving session, one call a command. A call that is refused leaves the session.
-use crate::buffers::{Lent, STORE};
-use crate::command::{Command, lent};
-use crate::say::{refused, say, say_bytes, say_id, say_number, say_salt, say_size};
-use crate::{fields, forms, say};
-use node::{Event, Line, Session, Step, Stepping};
+use crate::buffers::ROOM;
+use crate::command::Command;
+use crate::{fields, say};
+use node::{Event, Line, Session, Step};
 use std::io;
-
-// The mode that stands for no session: one that no call answers.
-const NO_SESSION: u8 = 255;
-
-// No session yet: that of a refused opening, with its mode changed.
-pub(crate) fn none() -> Session {
-    let mut no_room = [0u8; 1];
-    let refused = node::open_session(&mut no_room);
-    let mut session = refused.session;
-    session.mode = NO_SESSION;
-    session
-}
 
 pub(crate) fn obey(
     out: &impl Print,
-    c: Command,
-    piece: &[u8],
-    session: Session,
-    lens: Lent,
-    memory: &mut [u8],
-    replies: &mut [u8],
-) -> io::Result<Session> {
-    let verb = c.verb;
-    match verb {
-        forms::OPEN => open(out, session, lent(replies, 0, lens.reply)),
-        forms::FEED => feed(
-            out,
-            session,
-            piece,
-            lent(memory, STORE, lens.payload),
-            lent(replies, 0, lens.reply),
-        ),
-        _ => Ok(session),
+    command: Command,
+    session: &mut Option<Session>,
+    payload: &mut [u8],
+    reply: &mut [u8],
+) -> io::Result<()> {
+    match command {
+        Command::Open => open(out, session, reply),
+        Command::Feed(piece) => {
+            let mut room = [0u8; ROOM];
+            feed(out, session, piece.decoded(&mut room), payload, reply)
+        }
+        _ => Ok(()),
     }
 }
 
-fn open(out: &impl Print, session: Session, reply: &mut [u8]) -> io::Result<Session> {
+fn open(out: &impl Print, session: &mut Option<Session>, reply: &mut [u8]) -> io::Result<()> {
     let opened = node::open_session(reply);
-    let stepping = opened.stepping;
-    match stepping {
-        Stepping::Went => {
-            say_bytes(out, say::REPLY, reply, opened.written)?;
-            Ok(opened.session)
-        }
-        Stepping::Refused(number) => {
-            refused(out, number)?;
-            Ok(session)
-        }
+    if let Err(refusal) = opened.stepping {
+        return say::refused(out, refusal);
     }
+    *session = Some(opened.session);
+    say::front(out, "reply ", reply, opened.written)
 }
 
 // Before any `open` there is no session to feed.
 fn feed(
     out: &impl Print,
-    session: Session,
+    session: &mut Option<Session>,
     piece: &[u8],
     payload: &mut [u8],
     reply: &mut [u8],
-) -> io::Result<Session> {
-    if session.mode == NO_SESSION {
-        say(out, say::BAD_COMMAND)?;
-        return Ok(session);
+) -> io::Result<()> {
+    let Some(before) = *session else {
+        return print!(out; "bad command");
+    };
+    let step = node::feed(before, piece, payload, reply);
+    *session = Some(step.session);
+    if let Err(refusal) = step.stepping {
+        return say::refused(out, refusal);
     }
-    let step = node::feed(session, piece, payload, reply);
-    stepped(out, step, reply)?;
-    Ok(step.session)
+    stepped(out, &step, reply)
 }
 
 // What a step used, what happened, and its reply.
-fn stepped(out: &impl Print, step: Step, reply: &[u8]) -> io::Result<()> {
-    let stepping = step.stepping;
-    let event = step.event;
-    match stepping {
-        Stepping::Went => {
-            say_size(out, say::USED, step.used)?;
-            say_event(out, event, step.line)?;
-            say_bytes(out, say::THEN_REPLY, reply, step.written)
-        }
-        Stepping::Refused(number) => refused(out, number),
-    }
+fn stepped(out: &impl Print, step: &Step, reply: &[u8]) -> io::Result<()> {
+    print!(out; "used {}", step.used)?;
+    say_event(out, step.event, &step.line)?;
+    say::front(out, " reply ", reply, step.written)
 }
 
-fn say_event(out: &impl Print, event: Event, offered: Line) -> io::Result<()> {
+fn say_event(out: &impl Print, event: Event, offered: &Line) -> io::Result<()> {
     match event {
-        Event::Nothing => say(out, say::NO_EVENT),
-        Event::Offer(_) => fields::say_line(out, say::OFFER, offered),
-        Event::Message(t) => {
-            say_id(out, say::MESSAGE, t.id)?;
-            say_salt(out, t.has_salt, t.salt)?;
-            say_number(out, say::LEN, t.len)
+        Event::Nothing => print!(out; " nothing"),
+        Event::Offer(_) => {
+            print!(out; " offer")?;
+            fields::say_line(out, offered)
         }
-        Event::End(ending) => say_number(out, say::END, ending.reason as u32),
+        Event::Message(terms) => {
+            print!(out; " message id={:07x}", terms.id)?;
+            say::salt(out, terms.salt)?;
+            print!(out; " len={}", terms.len)
+        }
+        Event::End(ending) => {
+            let number = ending.reason.map_or(0, |refusal| refusal.number());
+            print!(out; " end {number}")
+        }
     }
 }

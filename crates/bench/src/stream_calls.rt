@@ -1,71 +1,79 @@
 // The commands on the stream table: `offer`, `take`, `force`, `close`, `save` and `load`.
-use crate::buffers::ROOM;
-use crate::command::{Command, lent};
-use crate::say::{refused, say, say_bytes, say_number};
-use crate::{forms, say};
-use node::{Accepting, Giving, Saved, Table, TableServed, TableTaken};
+use crate::arguments::LONGEST_NAME;
+use crate::buffers::{self, ROOM};
+use crate::command::Command;
+use crate::say;
+use node::{Refusal, Table, TableServed, TableTaken};
 use std::io;
 
-pub(crate) fn obey(
-    out: &impl Print,
-    c: Command,
-    a: &[u8],
-    b: &[u8],
-    table: Table,
-) -> io::Result<Table> {
-    let verb = c.verb;
-    match verb {
-        forms::OFFER => served(out, table.offer(a, b, c.x, c.y, c.z, c.t), say::ACCEPTED),
-        forms::TAKE => taken(out, table.take(a, b, c.t)),
-        forms::FORCE => taken(out, table.force(a, b, c.t)),
-        forms::CLOSE => served(out, table.close(a, b), say::CLOSED),
-        forms::LOAD => load(out, b, table),
-        forms::SAVE => save(out, table, c.t),
-        _ => Ok(table),
-    }
-}
-
-// The word of a call that was accepted, or its refusal.
-fn accepting(out: &impl Print, answer: Accepting, accepted: u8) -> io::Result<()> {
-    match answer {
-        Accepting::Accepted => say(out, accepted),
-        Accepting::Refused(number) => refused(out, number),
-    }
-}
-
-fn served(out: &impl Print, s: TableServed, accepted: u8) -> io::Result<Table> {
-    let answer = s.answer;
-    accepting(out, answer, accepted)?;
-    Ok(s.table)
-}
-
-fn load(out: &impl Print, image: &[u8], table: Table) -> io::Result<Table> {
-    let l = node::load(table, image);
-    let answer = l.answer;
-    accepting(out, answer, say::LOADED)?;
-    Ok(l.table)
-}
-
-fn taken(out: &impl Print, t: TableTaken) -> io::Result<Table> {
-    let answer = t.answer;
-    match answer {
-        Giving::Given(number, slip) => {
-            say_number(out, say::GIVEN, number)?;
-            say_number(out, say::SPACE, slip)?;
+pub(crate) fn obey(out: &impl Print, command: Command, table: &mut Table) -> io::Result<()> {
+    let mut originator = [0u8; LONGEST_NAME];
+    let mut id = [0u8; LONGEST_NAME];
+    match command {
+        Command::Offer(stream, m) => {
+            let a = stream.originator.decoded(&mut originator);
+            let b = stream.id.decoded(&mut id);
+            let served = table.offer(a, b, m.number, m.timeout, m.slip, m.time);
+            say_served(out, "accepted", table, served)
         }
-        Giving::Nothing => say(out, say::NOTHING)?,
-        Giving::Refused(number) => refused(out, number)?,
+        Command::Take(stream, time) => {
+            let a = stream.originator.decoded(&mut originator);
+            let b = stream.id.decoded(&mut id);
+            say_taken(out, table, table.take(a, b, time))
+        }
+        Command::Force(stream, time) => {
+            let a = stream.originator.decoded(&mut originator);
+            let b = stream.id.decoded(&mut id);
+            say_taken(out, table, table.force(a, b, time))
+        }
+        Command::Close(stream) => {
+            let a = stream.originator.decoded(&mut originator);
+            let b = stream.id.decoded(&mut id);
+            say_served(out, "closed", table, table.close(a, b))
+        }
+        Command::Save(len) => save(out, table, len),
+        Command::Load(image) => {
+            let mut room = [0u8; ROOM];
+            let loaded = node::load(*table, image.decoded(&mut room));
+            *table = loaded.table;
+            say_done(out, "loaded", loaded.answer)
+        }
+        _ => Ok(()),
     }
-    Ok(t.table)
+}
+
+// The word of a call that was made, or its refusal.
+fn say_done(out: &impl Print, word: &str, answer: Result<(), Refusal>) -> io::Result<()> {
+    match answer {
+        Ok(()) => print!(out; "{word}"),
+        Err(refusal) => say::refused(out, refusal),
+    }
+}
+
+fn say_served(
+    out: &impl Print,
+    word: &str,
+    table: &mut Table,
+    served: TableServed,
+) -> io::Result<()> {
+    *table = served.table;
+    say_done(out, word, served.answer)
+}
+
+fn say_taken(out: &impl Print, table: &mut Table, taken: TableTaken) -> io::Result<()> {
+    *table = taken.table;
+    match taken.answer {
+        Ok(Some(given)) => print!(out; "given {} {}", given.number, given.slip),
+        Ok(None) => print!(out; "nothing"),
+        Err(refusal) => say::refused(out, refusal),
+    }
 }
 
 // Into `len` lent bytes.
-fn save(out: &impl Print, table: Table, len: u32) -> io::Result<Table> {
+fn save(out: &impl Print, table: &Table, len: usize) -> io::Result<()> {
     let mut room = [0u8; ROOM];
-    let saved = node::save(table, lent(&mut room, 0, len as usize));
-    match saved {
-        Saved::Written(n) => say_bytes(out, say::IMAGE, &room, n)?,
-        Saved::Refused(number) => refused(out, number)?,
+    match node::save(*table, buffers::first(&mut room, len)) {
+        Ok(n) => say::front(out, "image ", &room, n),
+        Err(refusal) => say::refused(out, refusal),
     }
-    Ok(table)
 }

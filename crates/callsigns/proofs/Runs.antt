@@ -1,13 +1,13 @@
--- The bytes of one kind that a text begins with: a loop counts them, and what follows them is the text without them.
+-- The bytes of one kind that a text begins with, and what follows them: the text without them.
 use Rattle.std.specs.Prelude.{if◌then◌else◌}
-use Prim.Native.Nat.{ℕ, ◌+◌, ◌-◌, ◌<◌}
+use Prim.Native.Nat.{ℕ, ◌+◌, ◌-◌}
 use mathlib.Core.Path.{◌≡◌, refl, sym, ◌∙◌}
 use mathlib.Core.Bool.{Bool, true, false}
 use mathlib.Core.List.{List, [], ◌∷◌}
 use native.Mathlib.Omega.{arith}
-use lib.ListN.{length, get_or, take, drop, length-drop}
-use lib.Seq.{drop-length, take_all}
-use Rattle.octets.proofs.Lists.{drop-next}
+use lib.ListN.{length, take, drop, length-drop}
+use lib.Seq.{take_all}
+use Rattle.std.proofs.lemmas.List.Sums.{take_while-cons}
 use Rattle.callsigns.specs.Runs.{run, rest}
 
 -- the rest of a text as the code lends it
@@ -15,22 +15,10 @@ pub tail-part : (s : List ℕ) (n : ℕ) → take (length s - n) (drop n s) ≡ 
 tail-part s n = take_all (length s - n) (drop n s) (omega (arith, length-drop n s))
 
 module _ (p : ℕ → Bool) where
-  pub run_on : (s : List ℕ) (i : ℕ) → i < length s → p (get_or s i 0) ≡ true → i + length (run p (drop i s)) ≡ i + 1 + length (run p (drop (i + 1) s))
-  unfolding run
-  run_on s i h e = rw (drop-next s i 0 h, e) (omega arith)
-
-  pub run-stop : (s : List ℕ) (i : ℕ) → i < length s → p (get_or s i 0) ≡ false → i + length (run p (drop i s)) ≡ i
-  unfolding run
-  run-stop s i h e = rw (drop-next s i 0 h, e) (omega arith)
-
-  pub run_end : (s : List ℕ) (i : ℕ) → i ≡ length s → i + length (run p (drop i s)) ≡ i
-  unfolding run
-  run_end s i e = rw (e, drop-length s) (omega arith)
-
   pub run-rest : (s : List ℕ) → length s ≡ length (run p s) + length (rest p s)
   unfolding run rest
   run-rest [] = refl
-  run-rest (x ∷ s) = go (run-rest s) (p x)
+  run-rest (x ∷ s) = rw (take_while-cons p x s) (go (run-rest s) (p x))
     where
       go : length s ≡ length (run p s) + length (rest p s) → (b : Bool) → length (x ∷ s) ≡ length (if b then x ∷ run p s else []) + length (if b then rest p s else (x ∷ s))
       go e true = omega arith
@@ -39,7 +27,7 @@ module _ (p : ℕ → Bool) where
   pub rest-drop : (s : List ℕ) → rest p s ≡ drop (length (run p s)) s
   unfolding run rest
   rest-drop [] = refl
-  rest-drop (x ∷ s) = go (rest-drop s) (p x)
+  rest-drop (x ∷ s) = rw (take_while-cons p x s) (go (rest-drop s) (p x))
     where
       go : rest p s ≡ drop (length (run p s)) s → (b : Bool) → (if b then rest p s else (x ∷ s)) ≡ drop (length (if b then x ∷ run p s else [])) (x ∷ s)
       go e true = e

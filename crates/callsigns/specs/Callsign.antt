@@ -1,11 +1,9 @@
 -- Document 01, "Names and fields": callsigns, and when two of them are equal.
-use Rattle.std.specs.Prelude.{ℕ, ◌+◌, ◌-◌, Bool, true, false, List, [], ◌∷◌, length, if◌then◌else◌}
+use Rattle.std.specs.Prelude.{ℕ, ◌+◌, ◌-◌, Bool, true, false, List, [], ◌∷◌, length, Option, Some, None, if◌then◌else◌}
 use Rattle.octets.specs.Words.{◌and◌, ◌or◌, ◌=?◌, between}
 use Rattle.octets.specs.Bytes.{same}
 use Rattle.callsigns.specs.Runs.{run, rest}
 use Rattle.callsigns.specs.declared.Call.{Call}
-use Rattle.callsigns.specs.declared.Callsign.{Callsign}
-use Rattle.callsigns.specs.declared.Callsign.TheVariants.{Is, Malformed}
 
 -- a letter or digit: 0-9, A-Z, a-z
 unfoldable pub alnum : ℕ → Bool
@@ -41,8 +39,8 @@ callsign s = between 1 9 (base_length s) and suffix (rest alnum s)
 unfoldable pub call_of : List ℕ → Call
 call_of s = record { base = base_length s; ssid = ssid s }
 
-unfoldable pub callsign_of : List ℕ → Callsign
-callsign_of s = if callsign s then Is (call_of s) else Malformed
+unfoldable pub callsign_of : List ℕ → Option Call
+callsign_of s = if callsign s then Some (call_of s) else None
 
 -- two callsigns are equal if their bytes are
 unfoldable pub same_call : List ℕ → List ℕ → Bool

@@ -1,11 +1,9 @@
 -- Document 01, "Names and fields": destinations.
-use Rattle.std.specs.Prelude.{ℕ, Bool, false, List, [], ◌∷◌, length, drop, if◌then◌else◌}
+use Rattle.std.specs.Prelude.{ℕ, Bool, false, List, [], ◌∷◌, length, drop, Option, Some, None, if◌then◌else◌}
 use Rattle.octets.specs.Words.{◌and◌, ◌or◌, ◌=?◌, between}
 use Rattle.callsigns.specs.Runs.{run, rest}
 use Rattle.callsigns.specs.Callsign.{alnum, callsign, call_of}
 use Rattle.callsigns.specs.declared.Address.{Address}
-use Rattle.callsigns.specs.declared.Destination.{Destination}
-use Rattle.callsigns.specs.declared.Destination.TheVariants.{Is, Malformed}
 
 -- a letter, a digit, `-`, `_` or `.`
 unfoldable pub app_byte : ℕ → Bool
@@ -24,5 +22,5 @@ destination s = between 1 32 (length (run app_byte s)) and at_callsign (rest app
 unfoldable pub address_of : List ℕ → Address
 address_of s = record { app = length (run app_byte s); call = call_of (drop 1 (rest app_byte s)) }
 
-unfoldable pub destination_of : List ℕ → Destination
-destination_of s = if destination s then Is (address_of s) else Malformed
+unfoldable pub destination_of : List ℕ → Option Address
+destination_of s = if destination s then Some (address_of s) else None

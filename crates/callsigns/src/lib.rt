@@ -14,12 +14,6 @@ pub struct Call {
     pub ssid: u8,
 }
 
-#[derive(Clone, Copy)]
-pub enum Callsign {
-    Is(Call),
-    Malformed,
-}
-
 // A destination, taken apart: how many bytes its app has, and the callsign behind the `@`.
 #[derive(Clone, Copy)]
 pub struct Address {
@@ -27,31 +21,23 @@ pub struct Address {
     pub call: Call,
 }
 
-#[derive(Clone, Copy)]
-pub enum Destination {
-    Is(Address),
-    Malformed,
-}
-
 // Reads a whole text as a callsign.
-pub fn read_callsign(s: &[u8]) -> Callsign
+pub fn read_callsign(s: &[u8]) -> Option<Call>
     ensures { result ≡ callsign_of s.now }
 {
     let base = parts::call_run(s);
     if base < 1 {
-        return Callsign::Malformed;
+        return None;
     }
     if 9 < base {
-        return Callsign::Malformed;
+        return None;
     }
-    let suffix = parts::read_suffix(&s[base..]);
-    match suffix {
-        parts::Suffix::Ssid(ssid) => Callsign::Is(Call { base, ssid }),
-        parts::Suffix::Bad => Callsign::Malformed,
-    }
+    let ssid = parts::read_suffix(&s[base..])?;
+    Some(Call { base, ssid })
 }
 
 // Whether two callsigns are equal.
+#[tactic(auto, unfolding(crate::specs::Callsign::same_call))]
 pub fn same_call(a: &[u8], b: &[u8]) -> bool
     ensures { result ≡ same_call a.now b.now }
 {
@@ -59,47 +45,35 @@ pub fn same_call(a: &[u8], b: &[u8]) -> bool
 }
 
 // Reads a whole text as a destination.
-pub fn read_destination(s: &[u8]) -> Destination
+pub fn read_destination(s: &[u8]) -> Option<Address>
     ensures { result ≡ destination_of s.now }
 {
     let app = parts::app_run(s);
     if app < 1 {
-        return Destination::Malformed;
+        return None;
     }
     if 32 < app {
-        return Destination::Malformed;
+        return None;
     }
-    if app == s.len() {
-        return Destination::Malformed;
-    }
-    if s[app] != b'@' {
-        return Destination::Malformed;
-    }
-    let callsign = read_callsign(&s[app + 1..]);
-    match callsign {
-        Callsign::Is(call) => Destination::Is(Address { app, call }),
-        Callsign::Malformed => Destination::Malformed,
-    }
+    let [b'@', rest @ ..] = &s[app..] else {
+        return None;
+    };
+    let call = read_callsign(rest)?;
+    Some(Address { app, call })
 }
 
 // Whether a whole text is a callsign.
+#[tactic(auto, unfolding(crate::specs::Callsign::callsign_of))]
 pub fn is_callsign(s: &[u8]) -> bool
     ensures { result ≡ callsign s.now }
 {
-    let c = read_callsign(s);
-    match c {
-        Callsign::Is(_) => true,
-        Callsign::Malformed => false,
-    }
+    read_callsign(s).is_some()
 }
 
 // Whether a whole text is a destination.
+#[tactic(auto, unfolding(crate::specs::Destination::destination_of))]
 pub fn is_destination(s: &[u8]) -> bool
     ensures { result ≡ destination s.now }
 {
-    let d = read_destination(s);
-    match d {
-        Destination::Is(_) => true,
-        Destination::Malformed => false,
-    }
+    read_destination(s).is_some()
 }

@@ -1,6 +1,6 @@
 -- CRC-16/CCITT-FALSE (document 01, "The ihave line"): polynomial 0x1021, start 0xFFFF, no reflection, no final xor.
 -- A register of sixteen bits takes the text's bits one by one.
-use Rattle.std.specs.Prelude.{List, [], ◌∷◌, ℕ, ◌*◌, ◌/◌, ◌%◌, ◌^◌, if◌then◌else◌}
+use Rattle.std.specs.Prelude.{List, [], ◌∷◌, ℕ, ◌*◌, ◌/◌, ◌%◌, ◌^◌, fold, if◌then◌else◌}
 use Rattle.std.specs.Int.Bits.{bit_xor}
 use Rattle.octets.specs.Words.{◌=?◌}
 
@@ -15,8 +15,7 @@ unfoldable pub bit_feed : ℕ → ℕ → ℕ
 bit_feed c x = let moved = c * 2 % 2 ^ 16 in if c / 2 ^ 15 =? x then moved else bit_xor moved polynomial
 
 abbrev pub bits_feed : ℕ → List ℕ → ℕ
-bits_feed c [] = c
-bits_feed c (x ∷ xs) = bits_feed (bit_feed c x) xs
+bits_feed c xs = fold bit_feed c xs
 
 -- the eight bits of a byte; no reflection: the highest first
 abbrev pub bits : ℕ → List ℕ
@@ -24,8 +23,7 @@ bits b = b / 128 % 2 ∷ b / 64 % 2 ∷ b / 32 % 2 ∷ b / 16 % 2 ∷ b / 8 % 2 
 
 -- the register after more bytes
 abbrev pub crc_feed : ℕ → List ℕ → ℕ
-crc_feed c [] = c
-crc_feed c (b ∷ s) = crc_feed (bits_feed c (bits b)) s
+crc_feed c s = fold (λ r b. bits_feed r (bits b)) c s
 
 -- the check of a text; no final xor: the register as it stands
 abbrev pub crc16 : List ℕ → ℕ

@@ -11,13 +11,7 @@ const START: u16 = 0xFFFF;
 fn feed(crc: u16, s: &[u8]) -> u16
     ensures { result ≡ crc_feed crc s.now }
 {
-    let mut register = crc;
-    let mut i: usize = 0;
-    while i < s.len() {
-        register = byte(register, s[i]);
-        i += 1;
-    }
-    register
+    s.iter().fold(crc, |register, b| byte(register, *b))
 }
 
 // The check of a text.
@@ -31,7 +25,7 @@ pub fn crc(s: &[u8]) -> u16
 fn byte(crc: u16, b: u8) -> u16
     ensures { result ≡ bits_feed crc (bits b) }
 {
-    let upper = (crc >> 8) ^ (b as u16);
+    let upper = (crc >> 8) ^ u16::from(b);
     from_zero(upper) ^ ((crc % 256) * 256)
 }
 

@@ -1,4 +1,4 @@
--- What the groups of fields and the reader's tests come to, and what every public contract must show.
+-- What the reader's tests come to, and what every public contract must show.
 pub mod Groups
 pub mod Whole
 pub mod Unique

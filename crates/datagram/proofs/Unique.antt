@@ -1,31 +1,28 @@
 -- Every public function leaves one outcome and asks nothing; of a part, what is seen of it.
-use mathlib.Core.Path.{◌≡◌, refl, ap, sym, ◌∙◌}
+use Rattle.std.proofs.Common.{◌≡◌, ℕ, suc, Result, Ok, Err, refl, ap, sym, ◌∙◌, arith}
 use Rattle.octets.specs.Unique.{One, OneSeen, Free}
-use Rattle.datagram.specs.Answer.{Verdict, readable, refused_with, verdict, Said, says}
-use Rattle.datagram.specs.declared.DatagramReading.{DatagramReading}
-use Rattle.datagram.specs.declared.DatagramAnswer.{DatagramAnswer}
+use Rattle.refusals.specs.declared.Refusal.{Refusal}
+use Rattle.refusals.proofs.Told.{one-refusal}
+use Rattle.datagram.specs.Answer.{Verdict, readable, refused_with, Said, says}
+use Rattle.datagram.specs.declared.DatagramRead.{DatagramRead}
 use Rattle.datagram.proofs.read_datagram.Kinds as read-datagram-kinds
 use Rattle.datagram.proofs.read_datagram.Reads as read-datagram-reads
 use Rattle.datagram.proofs.payload.Kinds as payload-kinds
 use Rattle.datagram.proofs.payload.Reads as payload-reads
 
 -- what is said tells the answer
-abbrev reading : Verdict → DatagramReading
-reading readable = DatagramReading.Read
-reading (refused_with n) = DatagramReading.Refused n
+abbrev read-in : Said → DatagramRead
+read-in s = record { message = s.message; payload_at = s.payload_at; payload_len = s.payload_len }
 
-same-reading : (x : DatagramReading) → reading (verdict x) ≡ x
-same-reading DatagramReading.Read = refl
-same-reading (DatagramReading.Refused n) = refl
+abbrev number-in : Verdict → ℕ
+number-in readable = 0
+number-in (refused_with n) = suc n
 
-abbrev answer : Said → DatagramAnswer
-answer s = record { reading = reading s.reading; message = s.message; payload_at = s.payload_at; payload_len = s.payload_len }
-
-same_answer : (x : DatagramAnswer) → answer (says x) ≡ x
-same_answer x = ap (λ (r : DatagramReading). record { reading = r; message = x.message; payload_at = x.payload_at; payload_len = x.payload_len }) (same-reading x.reading)
-
-pub one-said : (x y : DatagramAnswer) → says x ≡ says y → x ≡ y
-one-said x y e = sym (same_answer x) ∙ ap answer e ∙ same_answer y
+pub one-said : (x y : Result DatagramRead Refusal) → says x ≡ says y → x ≡ y
+one-said (Ok a) (Ok b) e = ap (λ (s : Said). Ok (read-in s)) e
+one-said (Ok a) (Err b) e = let z = ap (λ (s : Said). number-in s.reading) e in absurd (omega (arith, z))
+one-said (Err a) (Ok b) e = let z = ap (λ (s : Said). number-in s.reading) e in absurd (omega (arith, z))
+one-said (Err a) (Err b) e = let z = ap (λ (s : Said). number-in s.reading) e in ap (λ r. Err r) (one-refusal a b (omega (arith, z)))
 
 pub read-datagram-one : One 1 read-datagram-kinds.ps read-datagram-kinds.r read-datagram-reads.Post
 read-datagram-one κs a x y v w p q = (one-said x y (p ∙ sym q), refl)

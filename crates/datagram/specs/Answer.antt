@@ -1,23 +1,20 @@
 -- Document 01, "The datagram": what reading answers, in the paper's order of refusals. `says` gives the paper's number and values for each case
--- of the answer's enum.
-use Rattle.std.specs.Prelude.{ℕ, ◌+◌, Bool, false, List, [], ◌∷◌, length, take, drop, if◌then◌else◌}
+-- of the code's answer.
+use Rattle.std.specs.Prelude.{ℕ, ◌+◌, Bool, false, List, [], ◌∷◌, length, take, drop, Result, Ok, Err, if◌then◌else◌}
 use Rattle.octets.specs.Words.{no, ◌<?◌, ◌≤?◌, ◌=?◌}
 use Rattle.octets.specs.Field.{Res, bad, got, num}
+use Rattle.refusals.specs.declared.Refusal.{Refusal}
+use Rattle.refusals.specs.Refusals.{number_of}
 use Rattle.refusals.specs.Numbers.{payload_too_long, longest_payload, not_version7, datagram_malformed}
 use Rattle.layout.specs.declared.Datagram.{Datagram}
 use Rattle.layout.specs.Texts.{blank_datagram}
 use Rattle.layout.specs.Layout.{message}
-use Rattle.datagram.specs.declared.DatagramReading.{DatagramReading}
-use Rattle.datagram.specs.declared.DatagramAnswer.{DatagramAnswer}
+use Rattle.datagram.specs.declared.DatagramRead.{DatagramRead}
 
 -- read, or refused with the number of the paper's table
 pub data Verdict : Type 0 where
   readable : Verdict
   refused_with : (number : ℕ) → Verdict
-
-abbrev pub verdict : DatagramReading → Verdict
-verdict DatagramReading.Read = readable
-verdict (DatagramReading.Refused number) = refused_with number
 
 -- what an answer says: the verdict, the message, and where in the lent datagram the payload stands
 pub record Said : Type 0 where
@@ -26,9 +23,6 @@ pub record Said : Type 0 where
   pub payload_at : ℕ
   pub payload_len : ℕ
 
-abbrev pub says : DatagramAnswer → Said
-says r = record { reading = verdict r.reading; message = r.message; payload_at = r.payload_at; payload_len = r.payload_len }
-
 -- read: the message, and the part of the lent datagram that the payload occupies
 abbrev pub accepted : Datagram → ℕ → ℕ → Said
 accepted m at len = record { reading = readable; message = m; payload_at = at; payload_len = len }
@@ -36,6 +30,10 @@ accepted m at len = record { reading = readable; message = m; payload_at = at; p
 -- refused: the number of the paper's table, and beside it the blank message and no payload
 abbrev pub refused : ℕ → Said
 refused number = record { reading = refused_with number; message = blank_datagram; payload_at = 0; payload_len = 0 }
+
+abbrev pub says : Result DatagramRead Refusal → Said
+says (Ok r) = accepted r.message r.payload_at r.payload_len
+says (Err r) = refused (number_of r)
 
 -- the payload's length was read behind `at` bytes: 4 where it is above 4,096; then the payload, and nothing may follow it
 abbrev pub after_length : List ℕ → Datagram → ℕ → Res ℕ → Said

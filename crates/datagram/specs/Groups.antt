@@ -1,34 +1,32 @@
 -- What the private readers of the fields promise one another; no public promise speaks of it.
-use Rattle.std.specs.Prelude.{Bool, true, false}
-use Rattle.envelope.specs.declared.Envelope.{Envelope}
-use Rattle.datagram_numbers.specs.declared.OpeningFound.{OpeningFound}
-use Rattle.datagram_texts.specs.declared.EndsFound.{EndsFound}
-use Rattle.datagram.specs.declared.DatagramReading.{DatagramReading}
-use Rattle.datagram.specs.declared.fields.OptionsFound.{OptionsFound}
+use Rattle.std.specs.Prelude.{ℕ, Result, Ok, Err}
+use Rattle.refusals.specs.declared.Refusal.{Refusal}
+use Rattle.refusals.specs.Refusals.{number_of}
+use Rattle.layout.specs.declared.Datagram.{Datagram}
+use Rattle.layout.specs.Layout as layout
+use Rattle.datagram_numbers.specs.declared.Opening.{Opening}
+use Rattle.datagram_texts.specs.declared.Ends.{Ends}
+use Rattle.datagram_lists.specs.declared.Way.{Way}
+use Rattle.datagram.specs.Answer.{Said, accepted, refused}
+use Rattle.datagram.specs.declared.fields.Options.{Options}
 
--- the fields are those of a valid message
-abbrev pub is_read : DatagramReading → Bool
-is_read DatagramReading.Read = true
-is_read (DatagramReading.Refused number) = false
+abbrev pub options_held : layout.Options → Options
+options_held x = record { fragment = x.0; stream = x.1.0; headers = x.1.1 }
 
--- the fields that a line has too, from the groups' values
-abbrev pub shared_from : OpeningFound → EndsFound → OptionsFound → Envelope
-shared_from o e p = record {
-  id = o.id;
-  has_salt = o.flags.salt;
-  salt = o.salt;
-  has_ttl = o.flags.ttl;
-  ttl = o.ttl;
-  has_src = o.flags.originator;
-  src = e.src;
-  has_fragment = o.flags.fragment;
-  mid = p.mid;
-  index = p.index;
-  total = p.total;
-  has_stream = o.flags.stream;
-  sid = p.sid;
-  sn = p.sn;
-  gt = p.gt;
-  headers = p.headers;
-  dst = e.dst;
-}
+-- and back: the layout's values of a group that is held in a struct
+abbrev pub opening_in : Opening → layout.Opening
+opening_in o = (o.flags, (o.id, (o.salt, o.ttl)))
+
+abbrev pub ends_in : Ends → layout.Ends
+ends_in e = (e.dst, (e.src, e.link))
+
+abbrev pub way_in : Way → layout.Way
+way_in w = (w.flood, (w.route, w.hops))
+
+abbrev pub options_in : Options → layout.Options
+options_in p = (p.fragment, (p.stream, p.headers))
+
+-- the payload's place and length, found or refused, beside a message
+abbrev pub says_with : Datagram → Result (ℕ × ℕ) Refusal → Said
+says_with m (Ok p) = accepted m p.0 p.1
+says_with m (Err r) = refused (number_of r)

@@ -1,138 +1,101 @@
-// The fields before the payload length. Each group is read from the part that begins where the last one ended; what a reader answers where its
-// fields are not there says nothing but that.
-ghost use Rattle.std.specs.Prelude.{◌≡◌};
-ghost use Rattle.layout.specs.Layout.{options, message};
-ghost use Rattle.datagram_numbers.specs.Found.{finding};
-ghost use Rattle.datagram.specs.Groups.{is_read, shared_from};
+// The fields before the payload length. Each group is read from the part that begins where the last one ended.
+ghost use Rattle.std.specs.Prelude.{◌≡◌, ◌≤◌, length, drop};
+ghost use Rattle.octets.specs.Reading.{read_as};
+ghost use Rattle.layout.specs.Layout.{options, message, message_of};
+ghost use Rattle.datagram.specs.Answer.{says, after_fields};
+ghost use Rattle.datagram.specs.Groups.{options_held, opening_in, ends_in, way_in, options_in};
 
-use crate::{DatagramAnswer, DatagramReading};
-use datagram_numbers::OpeningFound;
-use datagram_texts::EndsFound;
-use envelope::{Envelope, StreamText};
+use crate::DatagramRead;
+use datagram_lists::Way;
+use datagram_numbers::Opening;
+use datagram_texts::Ends;
+use envelope::{Envelope, Fragment, Stream};
 use headers::Headers;
 use layout::{Datagram, Flags};
+use refusals::Refusal;
 
 // Fragment, stream, headers.
 #[derive(Clone, Copy)]
-struct OptionsFound {
-    ok: bool,
-    used: usize,
-    mid: u32,
-    index: u16,
-    total: u16,
-    sid: StreamText,
-    sn: u32,
-    gt: u32,
+struct Options {
+    fragment: Option<Fragment>,
+    stream: Option<Stream>,
     headers: Headers,
 }
 
 // Fragment, stream, headers.
-fn read_options(d: &[u8], flags: Flags) -> OptionsFound
-    ensures { finding ((options flags).parse d.now) d.now result.ok (((result.mid, (result.index, result.total)), ((result.sid, (result.sn, result.gt)), result.headers))) result.used }
+#[tactic(auto, unfolding(layout::specs::Layout::options))]
+fn read_options(d: &[u8], flags: Flags) -> Option<(Options, usize)>
+    ensures { result ≡ read_as options_held ((options flags).parse d.now) }
 {
-    let a = datagram_numbers::read_fragment(d, flags.fragment);
-    let n1 = a.used;
+    let (fragment, n1) = datagram_numbers::read_fragment(d, flags.fragment)?;
     let d1 = &d[n1..];
-    let b = datagram_texts::read_stream(d1, flags.stream);
-    let n2 = b.used;
+    let (stream, n2) = datagram_texts::read_stream(d1, flags.stream)?;
     let d2 = &d1[n2..];
-    let c = datagram_lists::read_headers(d2, flags.headers);
-    let ok = datagram_numbers::both(a.ok, datagram_numbers::both(b.ok, c.ok));
-    let sid = b.sid;
-    let headers = c.headers;
-    OptionsFound {
-        ok,
-        used: n1 + (n2 + c.used),
-        mid: a.mid,
-        index: a.index,
-        total: a.total,
-        sid,
-        sn: b.sn,
-        gt: b.gt,
+    let (headers, n3) = datagram_lists::read_headers(d2, flags.headers)?;
+    let options = Options {
+        fragment,
+        stream,
         headers,
-    }
-}
-
-// The fields that a line has too, put together.
-fn put_together(o: OpeningFound, e: EndsFound, p: OptionsFound) -> Envelope
-    ensures { result ≡ shared_from o e p }
-{
-    let flags = o.flags;
-    let src = e.src;
-    let sid = p.sid;
-    let headers = p.headers;
-    let dst = e.dst;
-    Envelope {
-        id: o.id,
-        has_salt: flags.salt,
-        salt: o.salt,
-        has_ttl: flags.ttl,
-        ttl: o.ttl,
-        has_src: flags.originator,
-        src,
-        has_fragment: flags.fragment,
-        mid: p.mid,
-        index: p.index,
-        total: p.total,
-        has_stream: flags.stream,
-        sid,
-        sn: p.sn,
-        gt: p.gt,
-        headers,
-        dst,
-    }
-}
-
-fn reading_of(ok: bool) -> DatagramReading
-    ensures { is_read result ≡ ok }
-{
-    if ok {
-        return DatagramReading::Read;
-    }
-    DatagramReading::Refused(refusals::DATAGRAM_MALFORMED)
-}
-
-// The fields of a valid message, as the answer that they begin: whether they are there, the message, and the place behind them. The rules are
-// tested on the parts, so that the message is put together once.
-pub(crate) fn read_message(d: &[u8]) -> DatagramAnswer
-    ensures { finding (message.parse d.now) d.now (is_read result.reading) result.message result.payload_at }
-{
-    let a = datagram_numbers::read_opening(d);
-    let flags = a.flags;
-    let n1 = a.used;
-    let d1 = &d[n1..];
-    let b = datagram_texts::read_ends(d1, flags);
-    let n2 = b.used;
-    let d2 = &d1[n2..];
-    let c = datagram_lists::read_way(d2, flags);
-    let n3 = c.used;
-    let e = read_options(&d2[n3..], flags);
-    let there = datagram_numbers::both(
-        a.ok,
-        datagram_numbers::both(b.ok, datagram_numbers::both(c.ok, e.ok)),
-    );
-    let fields = put_together(a, b, e);
-    let link = b.link;
-    let route = c.route;
-    let hops = c.hops;
-    let shared = envelope::is_valid(fields);
-    let own = layout::own_rules(flags.link, link, flags.route, route, flags.hops, hops);
-    let reading = reading_of(datagram_numbers::both(there, datagram_numbers::both(shared, own)));
-    let message = Datagram {
-        fields,
-        has_link: flags.link,
-        link,
-        has_flood: flags.flood,
-        flood: c.flood,
-        has_route: flags.route,
-        route,
-        has_hops: flags.hops,
-        hops,
     };
-    DatagramAnswer {
-        message,
-        reading,
-        payload_at: n1 + (n2 + (n3 + e.used)),
-        payload_len: 0,
+    Some((options, n1 + n2 + n3))
+}
+
+// The message of the groups.
+fn put_together(o: &Opening, e: &Ends, w: &Way, p: &Options) -> Datagram
+    ensures { result ≡ message_of ((opening_in o.now, (ends_in e.now, (way_in w.now, options_in p.now)))) }
+{
+    let fields = Envelope {
+        id: o.id,
+        salt: o.salt,
+        ttl: o.ttl,
+        src: e.src,
+        fragment: p.fragment,
+        stream: p.stream,
+        headers: p.headers,
+        dst: e.dst,
+    };
+    Datagram {
+        fields,
+        link: e.link,
+        flood: w.flood,
+        route: w.route,
+        hops: w.hops,
     }
+}
+
+// The fields of a valid message behind the version, and where its payload stands. What holds large arrays is taken by reference out of what was
+// found, and the message goes into the answer as soon as it is put together: neither is copied on the way.
+pub(crate) fn read_message(d: &[u8]) -> Result<DatagramRead, Refusal>
+    requires { 1 ≤ length d.now }
+    ensures { says result ≡ after_fields d.now (message.parse (drop 1 d.now)) }
+{
+    let d0 = &d[1..];
+    let Some((opening, n1)) = datagram_numbers::read_opening(d0) else {
+        return Err(Refusal::DatagramMalformed);
+    };
+    let flags = opening.flags;
+    let d1 = &d0[n1..];
+    let Some((ends, n2)) = datagram_texts::read_ends(d1, flags) else {
+        return Err(Refusal::DatagramMalformed);
+    };
+    let d2 = &d1[n2..];
+    let way_found = datagram_lists::read_way(d2, flags);
+    let Some((way, n3)) = &way_found else {
+        return Err(Refusal::DatagramMalformed);
+    };
+    let d3 = &d2[*n3..];
+    let options_found = read_options(d3, flags);
+    let Some((options, n4)) = &options_found else {
+        return Err(Refusal::DatagramMalformed);
+    };
+    let message = put_together(&opening, &ends, way, options);
+    if !layout::is_valid(&message) {
+        return Err(Refusal::DatagramMalformed);
+    }
+    let (payload_at, payload_len) = crate::find_payload(d, 1 + n1 + n2 + *n3 + *n4)?;
+    Ok(DatagramRead {
+        message,
+        payload_at,
+        payload_len,
+    })
 }

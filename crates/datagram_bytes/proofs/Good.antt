@@ -1,4 +1,5 @@
 -- A valid message, each number in its type's range, is one that the layout can hold.
+use Rattle.std.specs.Prelude.{Option, Some, None, is_some, IfSome}
 use Prim.Native.Nat.{ℕ, ◌^◌, ◌≤◌, ◌<◌}
 use mathlib.Core.Path.{◌≡◌, refl}
 use mathlib.Core.Bool.{Bool, true, false}
@@ -6,11 +7,11 @@ use mathlib.Core.List.{List, [], ◌∷◌}
 use native.Mathlib.Omega.{arith}
 use borrow.Author.Tests.{le-leb, lt-ltb, eq-eqb, leb-true}
 use lib.ListN.{length, take, length-take}
-use lib.IntN.{pos}
+use lib.IntN.{ℤ}
 use lib.Signed.{mag}
 use Rattle.octets.proofs.SignLaws.{twos-below}
 use Rattle.octets.specs.Words.{◌and◌, ◌<?◌, ◌≤?◌, every}
-use Rattle.octets.specs.Field.{Field, num, when, signed_num}
+use Rattle.octets.specs.Field.{Field, num, given, signed_num}
 use Rattle.octets.specs.Numbers.{twos}
 use Rattle.octets.proofs.Tests.{and_left, and_right, and_both, inside}
 use Rattle.text.proofs.Hexes.{hex-is}
@@ -22,12 +23,13 @@ use Rattle.headers.specs.Rule.{value_of}
 use Rattle.envelope.specs.declared.CallText.{CallText}
 use Rattle.envelope.specs.declared.AddressText.{AddressText}
 use Rattle.envelope.specs.declared.StreamText.{StreamText}
-use Rattle.envelope.specs.Texts.{call_text, stream_text}
-use Rattle.envelope.specs.Rules.{call_bytes, address_bytes, stream_bytes, call_in, address_in, stream_in, id_in, ttl_in, fragment_in, if_set, envelope}
+use Rattle.envelope.specs.declared.Fragment.{Fragment}
+use Rattle.envelope.specs.declared.Stream.{Stream}
+use Rattle.envelope.specs.Rules.{call_bytes, address_bytes, stream_bytes, call_in, address_in, stream_in, id_in, ttl_in, fragment_in, fragment_good, stream_good, if_some, envelope}
 use Rattle.layout.specs.declared.Hops.{Hops}
 use Rattle.layout.specs.declared.Flags.{Flags}
 use Rattle.layout.specs.declared.Datagram.{Datagram}
-use Rattle.layout.specs.Texts.{hops_of, no_hops}
+use Rattle.layout.specs.Texts.{hops_of}
 use Rattle.layout.specs.Rules.{hops_in, valid}
 use Rattle.layout.specs.Layout.{text, call, address, stream_name, hex_id, hops, header, headers_of, headers, one, flags_number, flags, salt_if, call_if, flood_if, hops_if, fragment, fragment_if, stream, stream_if, headers_if, opening, ends, way, options, message_flags, opening_of, ends_of, way_of, layout, message}
 use Rattle.datagram_bytes.specs.Bytes.{Typed}
@@ -96,15 +98,30 @@ headers-good h l f e =
     (and_both _ _ (eq-eqb (length (headers_of h)) (length (headers_of h)) refl)
     (every-good rule.header header.ok header-good (headers_of h) (and_left (every rule.header (headers_of h)) _ (and_right (h.count ≤? 8) _ e)))))
 
--- ---- fields behind flags
+-- ---- fields that may be absent: by the message's rule, or by the number's range
 
-when-good : {A : Type 0} (b : Bool) (blank : A) (F : Field A) (a : A) (r : Bool) → if_set b r ≡ true → (r ≡ true → F.ok a ≡ true) → (when b blank F).ok a ≡ true
-when-good true blank F a r e h = h e
-when-good false blank F a r e h = refl
+ruled-good : {A : Type 0} (F : Field A) (r : A → Bool) (o : Option A) → if_some r o ≡ true → ((a : A) → r a ≡ true → F.ok a ≡ true) → (given (is_some o) F).ok o ≡ true
+ruled-good F r None e h = refl
+ruled-good F r (Some a) e h = h a e
 
-always : (b : Bool) → if_set b true ≡ true
-always true = refl
-always false = refl
+typed-good : {A : Type 0} (F : Field A) (P : A → Type 0) (o : Option A) → IfSome o P → ((a : A) → P a → F.ok a ≡ true) → (given (is_some o) F).ok o ≡ true
+typed-good F P None p h = refl
+typed-good F P (Some a) p h = h a p
+
+both-good : {A : Type 0} (F : Field A) (r : A → Bool) (P : A → Type 0) (o : Option A) → if_some r o ≡ true → IfSome o P → ((a : A) → r a ≡ true → P a → F.ok a ≡ true)
+    → (given (is_some o) F).ok o ≡ true
+both-good F r P None e p h = refl
+both-good F r P (Some a) e p h = h a e p
+
+salt-good : (z : ℤ) → mag z < 2 ^ 63 → signed_num.ok z ≡ true
+salt-good z h = and_both (mag z <? 2 ^ 63) _ (lt-ltb _ _ h) (lt-ltb (twos z) (256 ^ 8) (twos-below z h))
+
+fragment-good : (f : Fragment) → fragment_good f ≡ true → (f.index < 2 ^ 16) × (f.total < 2 ^ 16) → fragment.ok f ≡ true
+unfolding fragment_in
+fragment-good f e p = and_both _ _ (id-good f.mid (and_left (id_in f.mid) _ e)) (and_both _ _ (lt-ltb f.index (256 ^ 2) p.0) (lt-ltb f.total (256 ^ 2) p.1))
+
+stream-good : (s : Stream) → stream_good s ≡ true → (s.sn < 2 ^ 32) × (s.gt < 2 ^ 32) → stream.ok s ≡ true
+stream-good s e p = and_both _ _ (name-good s.sid e) (and_both _ _ (lt-ltb s.sn (256 ^ 4) p.0) (lt-ltb s.gt (256 ^ 4) p.1))
 
 headers_if-good : (b : Bool) (h : Headers) → length h.items ≡ 8 → (1 ≤? h.count) ≡ b → rule.headers h ≡ true → (headers_if b).ok h ≡ true
 headers_if-good true h l f e = headers-good h l f e
@@ -127,40 +144,36 @@ module _ (m : Datagram) (t : Typed m) (e : valid m ≡ true) where
   unfolding valid
   shared = and_left (envelope m.fields) _ e
 
-  own : if_set m.has_link (call_in m.link) and (if_set m.has_route (hops_in m.route) and if_set m.has_hops (hops_in m.hops)) ≡ true
+  own : if_some call_in m.link and (if_some hops_in m.route and if_some hops_in m.hops) ≡ true
   unfolding valid
   own = and_right (envelope m.fields) _ e
 
   pub layout-good : layout.ok m ≡ true
-  unfolding layout opening ends way options envelope fragment_in
+  unfolding layout opening ends way options envelope
   layout-good =
       let x = m.fields in
+      let f = message_flags m in
       let r1 = and_right (id_in x.id) _ shared in
-      let r2 = and_right (if_set x.has_ttl (ttl_in x.ttl)) _ r1 in
-      let r3 = and_right (if_set x.has_src (call_in x.src)) _ r2 in
-      let r4 = and_right (if_set x.has_fragment (fragment_in x.mid x.index x.total)) _ r3 in
-      let r5 = and_right (if_set x.has_stream (stream_in x.sid)) _ r4 in
-      let o1 = and_right (if_set m.has_link (call_in m.link)) _ own in
-      let salt = and_both (mag x.salt <? 2 ^ 63) _ (lt-ltb _ _ t.salt) (lt-ltb (twos x.salt) (256 ^ 8) (twos-below x.salt t.salt)) in
-      let head = and_both (flags.ok (message_flags m)) _ (flags-good (message_flags m)) (and_both (hex_id.ok x.id) _ (id-good x.id (and_left (id_in x.id) _ shared))
-      (and_both ((salt_if x.has_salt).ok x.salt) _ (when-good x.has_salt (pos 0) signed_num x.salt true (always x.has_salt) (λ q. salt))
-      (when-good x.has_ttl 0 (num 4) x.ttl true (always x.has_ttl) (λ q. lt-ltb x.ttl (256 ^ 4) t.ttl)))) in
-      let mid = and_both (address.ok x.dst) _ (address-good x.dst (and_right (rule.headers x.headers) _ r5)) (and_both ((call_if x.has_src).ok x.src) _
-      (when-good x.has_src (call_text []) (call 2) x.src (call_in x.src) (and_left _ _ r2) (call-good 2 x.src (omega arith)))
-      (when-good m.has_link (call_text []) (call 2) m.link (call_in m.link) (and_left _ _ own) (call-good 2 m.link (omega arith)))) in
-      let path = and_both ((flood_if m.has_flood).ok m.flood) _ (when-good m.has_flood 0 (num 1) m.flood true (always m.has_flood) (λ q. lt-ltb m.flood (256 ^ 1) t.flood))
-      (and_both ((hops_if m.has_route).ok m.route) _ (when-good m.has_route no_hops hops m.route (hops_in m.route) (and_left _ _ o1) (hops-good m.route))
-      (when-good m.has_hops no_hops hops m.hops (hops_in m.hops) (and_right (if_set m.has_route (hops_in m.route)) _ o1) (hops-good m.hops))) in
-      let g : ℕ × (ℕ × ℕ) = (x.mid, (x.index, x.total)) in
-      let s : StreamText × (ℕ × ℕ) = (x.sid, (x.sn, x.gt)) in
-      let last = and_both ((fragment_if x.has_fragment).ok g) _
-      (when-good x.has_fragment (0, (0, 0)) fragment g (fragment_in x.mid x.index x.total) (and_left _ _ r3)
-      (λ q. and_both _ _ (id-good x.mid (and_left (id_in x.mid) _ q)) (and_both _ _ (lt-ltb x.index (256 ^ 2) t.index) (lt-ltb x.total (256 ^ 2) t.total))))
-      (and_both ((stream_if x.has_stream).ok s) _
-      (when-good x.has_stream (stream_text [], (0, 0)) stream s (stream_in x.sid) (and_left _ _ r4)
-      (λ q. and_both _ _ (name-good x.sid q) (and_both _ _ (lt-ltb x.sn (256 ^ 4) t.sn) (lt-ltb x.gt (256 ^ 4) t.gt))))
+      let r2 = and_right (if_some ttl_in x.ttl) _ r1 in
+      let r3 = and_right (if_some call_in x.src) _ r2 in
+      let r4 = and_right (if_some fragment_good x.fragment) _ r3 in
+      let r5 = and_right (if_some stream_good x.stream) _ r4 in
+      let o1 = and_right (if_some call_in m.link) _ own in
+      let head = and_both (flags.ok f) _ (flags-good f) (and_both (hex_id.ok x.id) _ (id-good x.id (and_left (id_in x.id) _ shared))
+      (and_both ((salt_if f.salt).ok x.salt) _ (typed-good signed_num (λ z. mag z < 2 ^ 63) x.salt t.salt salt-good)
+      (typed-good (num 4) (λ v. v < 2 ^ 32) x.ttl t.ttl (λ v q. lt-ltb v (256 ^ 4) q)))) in
+      let mid = and_both (address.ok x.dst) _ (address-good x.dst (and_right (rule.headers x.headers) _ r5)) (and_both ((call_if f.originator).ok x.src) _
+      (ruled-good (call 2) call_in x.src (and_left _ _ r2) (λ a q. call-good 2 a (omega arith) q))
+      (ruled-good (call 2) call_in m.link (and_left _ _ own) (λ a q. call-good 2 a (omega arith) q))) in
+      let path = and_both ((flood_if f.flood).ok m.flood) _ (typed-good (num 1) (λ v. v < 2 ^ 8) m.flood t.flood (λ v q. lt-ltb v (256 ^ 1) q))
+      (and_both ((hops_if f.route).ok m.route) _ (ruled-good hops hops_in m.route (and_left _ _ o1) hops-good)
+      (ruled-good hops hops_in m.hops (and_right (if_some hops_in m.route) _ o1) hops-good)) in
+      let last = and_both ((fragment_if f.fragment).ok x.fragment) _
+      (both-good fragment fragment_good (λ g. (g.index < 2 ^ 16) × (g.total < 2 ^ 16)) x.fragment (and_left _ _ r3) t.fragment fragment-good)
+      (and_both ((stream_if f.stream).ok x.stream) _
+      (both-good stream stream_good (λ s. (s.sn < 2 ^ 32) × (s.gt < 2 ^ 32)) x.stream (and_left _ _ r4) t.stream stream-good)
       (headers_if-good (1 ≤? x.headers.count) x.headers t.headers refl (and_left _ _ r5))) in
-      and_both (opening.ok (opening_of m)) _ head (and_both ((ends (message_flags m)).ok (ends_of m)) _ mid (and_both ((way (message_flags m)).ok (way_of m)) _ path last))
+      and_both (opening.ok (opening_of m)) _ head (and_both ((ends f).ok (ends_of m)) _ mid (and_both ((way f).ok (way_of m)) _ path last))
 
   pub message-good : message.ok m ≡ true
   unfolding message

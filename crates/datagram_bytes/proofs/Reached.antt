@@ -2,7 +2,6 @@
 use mathlib.Core.Path.{◌≡◌, refl}
 use mathlib.Core.Bool.{true}
 use lib.ListN.{length, replicate}
-use Rattle.octets.specs.Bytes.{same}
 use Rattle.octets.specs.Numbers.{little_bytes}
 use Rattle.utf8.specs.Utf8 as u
 use Rattle.text.specs.Digits.{digits}
@@ -22,7 +21,7 @@ use Rattle.datagram_bytes.specs.Bytes.{bytes_of}
 use Rattle.datagram_bytes.specs.Examples.{longest_message}
 
 pub longest-valid : valid longest_message ≡ true
-unfolding valid envelope id_in ttl_in call_in address_in stream_in fragment_in hops_in callsign base_length suffix alnum destination at_callsign app_byte run rest stream_id id_text ruled text_byte header_key header_value reserved reserved_keys same rule.headers rule.header key_of value_of keys_of all_differ fitted padded u.run
+unfolding valid envelope id_in ttl_in call_in address_in stream_in fragment_in hops_in callsign base_length suffix alnum destination at_callsign app_byte run rest stream_id id_text ruled text_byte header_key header_value reserved reserved_keys rule.headers rule.header key_of value_of keys_of all_differ fitted padded u.run
 longest-valid = refl
 
 pub longest-reached : length (bytes_of longest_message (replicate 4096 0)) ≡ 6205

@@ -1,4 +1,5 @@
 -- How many bytes each field takes at most, and all of them together.
+use Rattle.std.specs.Prelude.{Option, Some, None}
 use Prim.Native.Nat.{ℕ, ◌+◌, ◌*◌, ◌≤◌}
 use mathlib.Core.Path.{◌≡◌}
 use mathlib.Core.Bool.{Bool, true, false}
@@ -6,9 +7,8 @@ use mathlib.Core.List.{List, [], ◌∷◌}
 use native.Mathlib.Omega.{arith}
 use native.Mathlib.Nat.{mul-suc, mul-zero}
 use lib.ListN.{length, length-append}
-use lib.IntN.{pos}
 use Rattle.octets.specs.Words.{◌and◌, ◌≤?◌, between, every}
-use Rattle.octets.specs.Field.{Field, num, when, seq, through, many_print, signed_num}
+use Rattle.octets.specs.Field.{Field, num, when, given, seq, through, many_print, signed_num}
 use Rattle.octets.specs.Numbers.{twos}
 use Rattle.octets.proofs.NumberLaws.{length-bytes}
 use Rattle.octets.proofs.Tests.{and_left, and_right, inside-high}
@@ -19,8 +19,8 @@ use Rattle.envelope.specs.Texts.{call_text, address_text, stream_text, header_te
 use Rattle.envelope.specs.Rules.{call_bytes, address_bytes, stream_bytes}
 use Rattle.layout.specs.declared.Flags.{Flags}
 use Rattle.layout.specs.declared.Datagram.{Datagram}
-use Rattle.layout.specs.Texts.{hops_of, hop_array, no_hops}
-use Rattle.layout.specs.Layout.{text, call, address, stream_name, hex_id, hop_list, hops, header, header_list, headers_of, header_array, headers, flags, flags_number, salt_if, call_if, flood_if, hops_if, fragment, fragment_if, stream, stream_if, opening, ends, way, options, message_of, parts_of, parts, layout}
+use Rattle.layout.specs.Texts.{hops_of, hop_array}
+use Rattle.layout.specs.Layout.{text, call, address, stream_name, hex_id, hop_list, hops, header, header_list, headers_of, header_array, headers, flags, flags_number, salt_if, call_if, flood_if, hops_if, fragment_of, fragment_parts, fragment, fragment_if, stream_of, stream_parts, stream, stream_if, opening, ends, way, options, message_of, parts_of, parts, layout}
 use Rattle.layout.proofs.Laws.{text-short, hop_list-short, header_list-between}
 use Rattle.layout.proofs.Valid.{each}
 
@@ -32,6 +32,13 @@ record Sized {A : Type 0} (F : Field A) (k : ℕ) : Type 0 where
 
 num-size : (w : ℕ) → Sized (num w) w
 num-size w = record { most = λ v e. omega (arith, length-bytes w v) }
+
+given-most : {A : Type 0} (b : Bool) (F : Field A) (k : ℕ) → Sized F k → (o : Option A) → (given b F).ok o ≡ true → length ((given b F).print o) ≤ k
+given-most b F k h None e = omega arith
+given-most b F k h (Some a) e = h.most a (and_right b _ e)
+
+given-size : {A : Type 0} (b : Bool) (F : Field A) (k : ℕ) → Sized F k → Sized (given b F) k
+given-size b F k h = record { most = λ o e. given-most b F k h o e }
 
 when-size : {A : Type 0} (b : Bool) (blank : A) (F : Field A) (k : ℕ) → Sized F k → Sized (when b blank F) k
 when-size true blank F k h = h
@@ -108,31 +115,36 @@ headers-size = held-size header_array headers_of (λ h. h.count ≤? 8) header_l
 
 -- ---- the groups, and the whole
 
+fragment-size : Sized fragment 11
+fragment-size =
+    held-size fragment_of _ (λ f. true) fragment_parts 11 (seq-size hex_id _ 7 4 id-size (λ i. seq-size (num 2) _ 2 2 (num-size 2) (λ j. num-size 2)))
+
+stream-size : Sized stream 264
+stream-size =
+    held-size stream_of _ (λ s. true) stream_parts 264 (seq-size stream_name _ 256 8 name-size (λ i. seq-size (num 4) _ 4 4 (num-size 4) (λ j. num-size 4)))
+
 opening-size : Sized opening 21
 unfolding opening
 opening-size =
-    seq-size flags _ 2 19 flags-size (λ f. seq-size hex_id _ 7 12 id-size (λ i. seq-size (salt_if f.salt) _ 8 4 (when-size f.salt (pos 0) signed_num 8 salt-size) (λ s. when-size f.ttl 0 (num 4) 4 (num-size 4))))
+    seq-size flags _ 2 19 flags-size (λ f. seq-size hex_id _ 7 12 id-size (λ i. seq-size (salt_if f.salt) _ 8 4 (given-size f.salt signed_num 8 salt-size) (λ s. given-size f.ttl (num 4) 4 (num-size 4))))
 
 ends-size : (f : Flags) → Sized (ends f) 75
 unfolding ends
 ends-size f =
     seq-size address _ 47 28 address-size
-    (λ d. seq-size (call_if f.originator) _ 14 14 (when-size f.originator (call_text []) (call 2) 14 (call-size 2)) (λ o. when-size f.link (call_text []) (call 2) 14 (call-size 2)))
+    (λ d. seq-size (call_if f.originator) _ 14 14 (given-size f.originator (call 2) 14 (call-size 2)) (λ o. given-size f.link (call 2) 14 (call-size 2)))
 
 way-size : (f : Flags) → Sized (way f) 419
 unfolding way
 way-size f =
-    seq-size (flood_if f.flood) _ 1 418 (when-size f.flood 0 (num 1) 1 (num-size 1))
-    (λ n. seq-size (hops_if f.route) _ 209 209 (when-size f.route no_hops hops 209 hops-size) (λ r. when-size f.hops no_hops hops 209 hops-size))
+    seq-size (flood_if f.flood) _ 1 418 (given-size f.flood (num 1) 1 (num-size 1))
+    (λ n. seq-size (hops_if f.route) _ 209 209 (given-size f.route hops 209 hops-size) (λ r. given-size f.hops hops 209 hops-size))
 
 options-size : (f : Flags) → Sized (options f) 1589
 unfolding options
 options-size f =
-    seq-size (fragment_if f.fragment) _ 11 1578
-    (when-size f.fragment (0, (0, 0)) fragment 11 (seq-size hex_id _ 7 4 id-size (λ i. seq-size (num 2) _ 2 2 (num-size 2) (λ j. num-size 2))))
-    (λ g. seq-size (stream_if f.stream) _ 264 1314
-    (when-size f.stream (stream_text [], (0, 0)) stream 264 (seq-size stream_name _ 256 8 name-size (λ i. seq-size (num 4) _ 4 4 (num-size 4) (λ j. num-size 4))))
-    (λ s. when-size f.headers no_headers headers 1314 headers-size))
+    seq-size (fragment_if f.fragment) _ 11 1578 (given-size f.fragment fragment 11 fragment-size)
+    (λ g. seq-size (stream_if f.stream) _ 264 1314 (given-size f.stream stream 264 stream-size) (λ s. when-size f.headers no_headers headers 1314 headers-size))
 
 pub fields-size : (m : Datagram) → layout.ok m ≡ true → length (layout.print m) ≤ 2104
 unfolding layout

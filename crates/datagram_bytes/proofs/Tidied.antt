@@ -1,40 +1,48 @@
 -- What reading back clears is what the message's own rule of tidiness clears.
-use Rattle.std.specs.Prelude.{if◌then◌else◌}
-use Prim.Native.Nat.{ℕ}
+use Rattle.std.specs.Prelude.{Option, Some, None, option_map}
+use Prim.Native.Nat.{ℕ, ◌^◌}
 use mathlib.Core.Path.{◌≡◌, refl, ap, ◌∙◌}
 use mathlib.Core.Bool.{Bool, true, false}
-use mathlib.Core.List.{[], map}
+use mathlib.Core.List.{map}
 use native.Mathlib.Omega.{arith}
-use borrow.Author.Tests.{leb-true, leb-false}
+use borrow.Author.Tests.{leb-true, leb-false, ltb-true}
 use lib.ListN.{length, length-take, length-map}
-use lib.IntN.{ℤ, pos}
+use lib.IntN.{ℤ}
+use lib.Signed.{mag}
 use Rattle.octets.proofs.SignLaws.{twos_back}
 use Rattle.octets.specs.Words.{◌≤?◌}
-use Rattle.octets.specs.Field.{Field, num, when, signed_num}
+use Rattle.octets.specs.Field.{Field, num, given, signed_num}
 use Rattle.octets.proofs.Tests.{and_left, and_right}
 use Rattle.headers.specs.declared.Headers.{Headers}
 use Rattle.envelope.specs.declared.CallText.{CallText}
 use Rattle.envelope.specs.declared.AddressText.{AddressText}
-use Rattle.envelope.specs.declared.StreamText.{StreamText}
-use Rattle.envelope.specs.Texts.{call_text, address_text, stream_text}
-use Rattle.envelope.specs.Rules.{call_bytes, address_bytes, stream_bytes}
-use Rattle.envelope.specs.Tidy.{behind, tidy_header, tidy_headers, tidy}
+use Rattle.envelope.specs.declared.Fragment.{Fragment}
+use Rattle.envelope.specs.declared.Stream.{Stream}
+use Rattle.envelope.specs.Texts.{address_text}
+use Rattle.envelope.specs.Rules.{address_bytes}
+use Rattle.envelope.specs.Tidy.{tidy_call, tidy_stream, tidy_header, tidy_headers, tidy}
 use Rattle.layout.specs.declared.Hops.{Hops}
 use Rattle.layout.specs.declared.Flags.{Flags}
 use Rattle.layout.specs.declared.Datagram.{Datagram}
-use Rattle.layout.specs.Texts.{no_hops}
 use Rattle.layout.specs.Tidy.{tidy_hops, tidy_datagram}
-use Rattle.layout.specs.Layout.{text, call, address, stream_name, hex_id, hops, header, headers_of, headers, flags, salt_if, call_if, flood_if, hops_if, fragment_if, stream_if, headers_if, opening, ends, way, options, message_of, message_flags, opening_of, ends_of, way_of, layout, message}
+use Rattle.layout.specs.Layout.{text, call, address, stream_name, hex_id, hops, header, headers_of, headers, flags, salt_if, call_if, flood_if, hops_if, fragment_of, fragment, fragment_if, stream, stream_if, headers_if, opening, ends, way, options, message_of, message_flags, opening_of, ends_of, way_of, layout, message}
 use Rattle.layout.proofs.Valid.{id-tidy, layout-tidy}
 use Rattle.datagram_bytes.specs.Bytes.{Typed}
 
 -- ---- each field
 
-when-tidy : {A : Type 0} (b : Bool) (blank : A) (F : Field A) (a c : A) → (when b blank F).ok a ≡ true → (F.ok a ≡ true → F.tidy a ≡ c) → (when b blank F).tidy a ≡ (if b then c else blank)
-when-tidy true blank F a c e h = h e
-when-tidy false blank F a c e h = refl
+given-tidy : {A : Type 0} (b : Bool) (F : Field A) (c : A → A) (o : Option A) → (given b F).ok o ≡ true → ((a : A) → F.ok a ≡ true → F.tidy a ≡ c a) → (given b F).tidy o ≡ option_map c o
+given-tidy b F c None e h = refl
+given-tidy b F c (Some a) e h = ap Some (h a (and_right b _ e))
 
-call-tidy : (t : CallText) → (call 2).tidy t ≡ call_text (call_bytes t)
+given-kept : {A : Type 0} (b : Bool) (F : Field A) (o : Option A) → (given b F).ok o ≡ true → ((a : A) → F.ok a ≡ true → F.tidy a ≡ a) → (given b F).tidy o ≡ o
+given-kept b F None e h = refl
+given-kept b F (Some a) e h = ap Some (h a (and_right b _ e))
+
+salt-tidy : (z : ℤ) → signed_num.ok z ≡ true → signed_num.tidy z ≡ z
+salt-tidy z e = twos_back z (ltb-true (mag z) (2 ^ 63) (and_left _ _ e))
+
+call-tidy : (t : CallText) → (call 2).tidy t ≡ tidy_call t
 unfolding call text
 call-tidy t = refl
 
@@ -46,15 +54,12 @@ hops-tidy : (h : Hops) → hops.tidy h ≡ tidy_hops h
 unfolding hops call text
 hops-tidy h = refl
 
-fragment-tidy : (b : Bool) (mid index total : ℕ) → (fragment_if b).ok (mid, (index, total)) ≡ true
-    → (fragment_if b).tidy (mid, (index, total)) ≡ (behind b mid, (behind b index, behind b total))
-fragment-tidy true mid index total e = ap (λ (v : ℕ). (v, (index, total))) (id-tidy mid (and_left (hex_id.ok mid) _ e))
-fragment-tidy false mid index total e = refl
+fragment-tidy : (g : Fragment) → fragment.ok g ≡ true → fragment.tidy g ≡ g
+fragment-tidy g e = ap (λ (v : ℕ). fragment_of (v, (g.index, g.total))) (id-tidy g.mid (and_left (hex_id.ok g.mid) _ e))
 
-stream-tidy : (b : Bool) (sid : StreamText) (sn gt : ℕ) → (stream_if b).tidy (sid, (sn, gt)) ≡ ((if b then stream_text (stream_bytes sid) else stream_text []), (behind b sn, behind b gt))
+stream-tidy : (q : Stream) → stream.tidy q ≡ tidy_stream q
 unfolding stream_name text
-stream-tidy true sid sn gt = refl
-stream-tidy false sid sn gt = refl
+stream-tidy q = refl
 
 headers-tidy : (b : Bool) (h : Headers) → length h.items ≡ 8 → (1 ≤? h.count) ≡ b → (headers_if b).ok h ≡ true → (headers_if b).tidy h ≡ tidy_headers h
 unfolding headers header text tidy_headers
@@ -66,7 +71,7 @@ headers-tidy false h l f e = let z : h.count ≡ 0 = omega (arith, leb-false 1 h
 
 -- ---- the whole message
 
-module _ (f : Flags) (i i' : ℕ) (s s' : ℤ) (t t' : ℕ) (d d' : AddressText) (o o' l l' : CallText) (n n' : ℕ) (r r' h h' : Hops) (g g' : ℕ × (ℕ × ℕ)) (q q' : StreamText × (ℕ × ℕ)) (k k' : Headers) where
+module _ (f : Flags) (i i' : ℕ) (s s' : Option ℤ) (t t' : Option ℕ) (d d' : AddressText) (o o' l l' : Option CallText) (n n' : Option ℕ) (r r' h h' : Option Hops) (g g' : Option Fragment) (q q' : Option Stream) (k k' : Headers) where
   same-message : i ≡ i' → s ≡ s' → t ≡ t' → d ≡ d' → o ≡ o' → l ≡ l' → n ≡ n' → r ≡ r' → h ≡ h' → g ≡ g' → q ≡ q' → k ≡ k'
       → message_of ((f, (i, (s, t))), ((d, (o, l)), ((n, (r, h)), (g, (q, k))))) ≡ message_of ((f, (i', (s', t'))), ((d', (o', l')), ((n', (r', h')), (g', (q', k')))))
   same-message ei es et ed eo el en er eh eg eq ek = rw (ei, es, et, ed, eo, el, en, er, eh, eg, eq, ek)
@@ -82,22 +87,20 @@ message-tidy m t e =
     let n1 = and_right (address.ok x.dst) _ (and_left ((ends f).ok (ends_of m)) _ e1) in
     let e2 = and_right ((ends f).ok (ends_of m)) _ e1 in
     let w0 = and_left ((way f).ok (way_of m)) _ e2 in
-    let w1 = and_right ((flood_if m.has_flood).ok m.flood) _ w0 in
+    let w1 = and_right ((flood_if f.flood).ok m.flood) _ w0 in
     let p = and_right ((way f).ok (way_of m)) _ e2 in
-    let g : ℕ × (ℕ × ℕ) = (x.mid, (x.index, x.total)) in
-    let s : StreamText × (ℕ × ℕ) = (x.sid, (x.sn, x.gt)) in
-    let p1 = and_right ((fragment_if x.has_fragment).ok g) _ p in
+    let p1 = and_right ((fragment_if f.fragment).ok x.fragment) _ p in
     layout-tidy m
     ∙ same-message f _ _ _ _ _ _ _ _ _ _ _ _ _ _ _ _ _ _ _ _ _ _ _ _
     (id-tidy x.id (and_left (hex_id.ok x.id) _ o))
-    (when-tidy x.has_salt (pos 0) signed_num x.salt x.salt (and_left _ _ st) (λ q. twos_back x.salt t.salt))
-    (when-tidy x.has_ttl 0 (num 4) x.ttl x.ttl (and_right ((salt_if x.has_salt).ok x.salt) _ st) (λ q. refl))
+    (given-kept f.salt signed_num x.salt (and_left _ _ st) salt-tidy)
+    (given-kept f.ttl (num 4) x.ttl (and_right ((salt_if f.salt).ok x.salt) _ st) (λ a q. refl))
     (address-tidy x.dst)
-    (when-tidy x.has_src (call_text []) (call 2) x.src (call_text (call_bytes x.src)) (and_left _ _ n1) (λ q. call-tidy x.src))
-    (when-tidy m.has_link (call_text []) (call 2) m.link (call_text (call_bytes m.link)) (and_right ((call_if x.has_src).ok x.src) _ n1) (λ q. call-tidy m.link))
-    (when-tidy m.has_flood 0 (num 1) m.flood m.flood (and_left _ _ w0) (λ q. refl))
-    (when-tidy m.has_route no_hops hops m.route (tidy_hops m.route) (and_left _ _ w1) (λ q. hops-tidy m.route))
-    (when-tidy m.has_hops no_hops hops m.hops (tidy_hops m.hops) (and_right ((hops_if m.has_route).ok m.route) _ w1) (λ q. hops-tidy m.hops))
-    (fragment-tidy x.has_fragment x.mid x.index x.total (and_left _ _ p))
-    (stream-tidy x.has_stream x.sid x.sn x.gt)
-    (headers-tidy (1 ≤? x.headers.count) x.headers t.headers refl (and_right ((stream_if x.has_stream).ok s) _ p1))
+    (given-tidy f.originator (call 2) tidy_call x.src (and_left _ _ n1) (λ a q. call-tidy a))
+    (given-tidy f.link (call 2) tidy_call m.link (and_right ((call_if f.originator).ok x.src) _ n1) (λ a q. call-tidy a))
+    (given-kept f.flood (num 1) m.flood (and_left _ _ w0) (λ a q. refl))
+    (given-tidy f.route hops tidy_hops m.route (and_left _ _ w1) (λ a q. hops-tidy a))
+    (given-tidy f.hops hops tidy_hops m.hops (and_right ((hops_if f.route).ok m.route) _ w1) (λ a q. hops-tidy a))
+    (given-kept f.fragment fragment x.fragment (and_left _ _ p) fragment-tidy)
+    (given-tidy f.stream stream tidy_stream x.stream (and_left _ _ p1) (λ a q. stream-tidy a))
+    (headers-tidy (1 ≤? x.headers.count) x.headers t.headers refl (and_right ((stream_if f.stream).ok x.stream) _ p1))

@@ -1,5 +1,5 @@
 -- Source 000, "Datagram bearer": the bytes of a datagram. The fields before the payload length are the layout that the reader reads by.
-use Rattle.std.specs.Prelude.{ℕ, ◌+◌, ◌^◌, ◌<◌, ◌≡◌, List, ◌∷◌, ◌++◌, length}
+use Rattle.std.specs.Prelude.{ℕ, ◌+◌, ◌^◌, ◌<◌, ◌≡◌, List, ◌∷◌, ◌++◌, length, IfSome}
 use Rattle.std.specs.Int.Signed.{mag}
 use Rattle.octets.specs.Field.{num}
 use Rattle.layout.specs.declared.Datagram.{Datagram}
@@ -15,11 +15,9 @@ payload_place m = 1 + length (layout.print m) + 4
 
 -- a value of the Rust type: each number in its type's range, and the arrays as long as they are
 pub record Typed (m : Datagram) : Type 0 where
-  pub salt : mag m.fields.salt < 2 ^ 63
-  pub ttl : m.fields.ttl < 2 ^ 32
-  pub flood : m.flood < 2 ^ 8
-  pub index : m.fields.index < 2 ^ 16
-  pub total : m.fields.total < 2 ^ 16
-  pub sn : m.fields.sn < 2 ^ 32
-  pub gt : m.fields.gt < 2 ^ 32
+  pub salt : IfSome m.fields.salt (λ z. mag z < 2 ^ 63)
+  pub ttl : IfSome m.fields.ttl (λ v. v < 2 ^ 32)
+  pub flood : IfSome m.flood (λ v. v < 2 ^ 8)
+  pub fragment : IfSome m.fields.fragment (λ f. (f.index < 2 ^ 16) × (f.total < 2 ^ 16))
+  pub stream : IfSome m.fields.stream (λ s. (s.sn < 2 ^ 32) × (s.gt < 2 ^ 32))
   pub headers : length m.fields.headers.items ≡ 8

@@ -1,9 +1,9 @@
 -- Document 01, "The datagram": the smallest datagram, and one as long as any.
-use Rattle.std.specs.Prelude.{ℕ, true, false, List, [], ◌∷◌, ◌++◌, replicate, pos, negsuc}
+use Rattle.std.specs.Prelude.{ℕ, List, [], ◌∷◌, ◌++◌, replicate, negsuc, Some, None}
 use Rattle.envelope.specs.Texts.{call_text, address_text, stream_text, header_text, no_headers}
 use Rattle.headers.specs.declared.Header.{Header}
 use Rattle.layout.specs.declared.Datagram.{Datagram}
-use Rattle.layout.specs.Texts.{hop_array, no_hops}
+use Rattle.layout.specs.Texts.{hop_array}
 use Rattle.layout.specs.Layout.{header_array}
 
 -- 0700003765316633613203006D404100000000
@@ -16,31 +16,18 @@ abbrev pub smallest_message : Datagram
 smallest_message = record {
   fields = record {
     id = 0x7E1F3A2;
-    has_salt = false;
-    salt = pos 0;
-    has_ttl = false;
-    ttl = 0;
-    has_src = false;
-    src = call_text [];
-    has_fragment = false;
-    mid = 0;
-    index = 0;
-    total = 0;
-    has_stream = false;
-    sid = stream_text [];
-    sn = 0;
-    gt = 0;
+    salt = None;
+    ttl = None;
+    src = None;
+    fragment = None;
+    stream = None;
     headers = no_headers;
     dst = address_text (0x6D ∷ 0x40 ∷ 0x41 ∷ []);
   };
-  has_link = false;
-  link = call_text [];
-  has_flood = false;
-  flood = 0;
-  has_route = false;
-  route = no_hops;
-  has_hops = false;
-  hops = no_hops;
+  link = None;
+  flood = None;
+  route = None;
+  hops = None;
 }
 
 -- every field there, and each as long as it may be: callsigns AAAAAAAAA-15, keys of 32 bytes that end in 1 to 8
@@ -54,29 +41,16 @@ abbrev pub longest_message : Datagram
 longest_message = record {
   fields = record {
     id = 0xFFFFFFF;
-    has_salt = true;
-    salt = negsuc 0;
-    has_ttl = true;
-    ttl = 2147483647;
-    has_src = true;
-    src = call_text long_call;
-    has_fragment = true;
-    mid = 0;
-    index = 1;
-    total = 65535;
-    has_stream = true;
-    sid = stream_text (replicate 255 0x73);
-    sn = 4294967295;
-    gt = 0;
+    salt = Some (negsuc 0);
+    ttl = Some 2147483647;
+    src = Some (call_text long_call);
+    fragment = Some (record { mid = 0; index = 1; total = 65535 });
+    stream = Some (record { sid = stream_text (replicate 255 0x73); sn = 4294967295; gt = 0 });
     headers = header_array (long_header 0x31 ∷ long_header 0x32 ∷ long_header 0x33 ∷ long_header 0x34 ∷ long_header 0x35 ∷ long_header 0x36 ∷ long_header 0x37 ∷ long_header 0x38 ∷ []);
     dst = address_text (replicate 32 0x61 ++ (0x40 ∷ long_call));
   };
-  has_link = true;
-  link = call_text long_call;
-  has_flood = true;
-  flood = 255;
-  has_route = true;
-  route = hop_array (replicate 16 (call_text long_call));
-  has_hops = true;
-  hops = hop_array (replicate 16 (call_text long_call));
+  link = Some (call_text long_call);
+  flood = Some 255;
+  route = Some (hop_array (replicate 16 (call_text long_call)));
+  hops = Some (hop_array (replicate 16 (call_text long_call)));
 }

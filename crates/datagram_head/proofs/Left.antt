@@ -1,10 +1,9 @@
 -- A list that is put value by value: what is left stands behind what was put.
 use Prim.Native.Nat.{ℕ, ◌+◌, ◌≤◌, ◌<◌, min}
 use mathlib.Core.Path.{◌≡◌, refl, sym, ap, ◌∙◌}
-use mathlib.Core.List.{List, [], ◌∷◌, ◌++◌}
+use mathlib.Core.List.{List, [], ◌++◌}
 use native.Mathlib.Omega.{arith}
 use lib.ListN.{length, take, drop, get_or, length-append, length-take, drop_of_length-le}
-use lib.Seq.{length-take-le, get_or-take}
 use Rattle.octets.specs.Bytes.{placed}
 use Rattle.octets.specs.Field.{Field, num, many_print}
 use Rattle.octets.proofs.Lists.{length-placed, placed-none, drop-next, placed-append}
@@ -35,23 +34,23 @@ left-next {a} {at} {next} {from} {l} {x} {all} {start} b h p =
 left-none : {at from : ℕ} {l all start : List ℕ} → Left [] at l all from start → Put all from start at l
 left-none {at} {from} {l} h = record { place = omega (arith, h.place); bytes = sym (placed-none at l (omega (arith, h.room))) ∙ h.bytes }
 
--- ---- the first n values of an array, from the place i on
+-- ---- the values of a list, from the place i on
 
-module _ {A : Type 0} (F : Field A) (l : List A) (n : ℕ) (d : A) (k : n ≤ length l) where
-  next-value : (i : ℕ) → i < n → many_print F (drop i (take n l)) ≡ F.print (get_or l i d) ++ many_print F (drop (i + 1) (take n l))
-  next-value i h = ap (many_print F) (drop-next (take n l) i d (rw (length-take-le n l k) h) ∙ ap (λ (x : A). x ∷ drop (i + 1) (take n l)) (get_or-take n l i d h))
+module _ {A : Type 0} (F : Field A) (l : List A) (d : A) where
+  next-value : (i : ℕ) → i < length l → many_print F (drop i l) ≡ F.print (get_or l i d) ++ many_print F (drop (i + 1) l)
+  next-value i h = ap (many_print F) (drop-next l i d h)
 
-  pub value_room : (i : ℕ) {from : ℕ} {all start : List ℕ} {at : ℕ} {buffer : List ℕ} → i < n → Left (many_print F (drop i (take n l))) at buffer all from start → Room (F.print (get_or l i d)) at buffer
+  pub value_room : (i : ℕ) {from : ℕ} {all start : List ℕ} {at : ℕ} {buffer : List ℕ} → i < length l → Left (many_print F (drop i l)) at buffer all from start → Room (F.print (get_or l i d)) at buffer
   value_room i {from} {all} {start} {at} {buffer} h g =
-      record { room = omega (arith, g.room, ap length (next-value i h), length-append (F.print (get_or l i d)) (many_print F (drop (i + 1) (take n l)))) }
+      record { room = omega (arith, g.room, ap length (next-value i h), length-append (F.print (get_or l i d)) (many_print F (drop (i + 1) l))) }
 
-  pub value-put : (i : ℕ) {from : ℕ} {all start : List ℕ} {at next : ℕ} {buffer x : List ℕ} → i < n → Left (many_print F (drop i (take n l))) at buffer all from start → Put (F.print (get_or l i d)) at buffer next x
-      → Left (many_print F (drop (i + 1) (take n l))) next x all from start
-  value-put i {from} {all} {start} {at} {next} {buffer} {x} h g p = left-next (many_print F (drop (i + 1) (take n l))) (rw (next-value i h) at g) p
+  pub value-put : (i : ℕ) {from : ℕ} {all start : List ℕ} {at next : ℕ} {buffer x : List ℕ} → i < length l → Left (many_print F (drop i l)) at buffer all from start → Put (F.print (get_or l i d)) at buffer next x
+      → Left (many_print F (drop (i + 1) l)) next x all from start
+  value-put i {from} {all} {start} {at} {next} {buffer} {x} h g p = left-next (many_print F (drop (i + 1) l)) (rw (next-value i h) at g) p
 
-  pub all-put : (i : ℕ) {from : ℕ} {all start : List ℕ} {at : ℕ} {buffer : List ℕ} → n ≤ i → Left (many_print F (drop i (take n l))) at buffer all from start → Put all from start at buffer
+  pub all-put : (i : ℕ) {from : ℕ} {all start : List ℕ} {at : ℕ} {buffer : List ℕ} → length l ≤ i → Left (many_print F (drop i l)) at buffer all from start → Put all from start at buffer
   all-put i {from} {all} {start} {at} {buffer} h g =
-      let e : drop i (take n l) ≡ [] = drop_of_length-le (take n l) {i = i} (rw (length-take-le n l k) h) in
+      let e : drop i l ≡ [] = drop_of_length-le l {i = i} h in
       left-none (rw e at g)
 
 -- the count, cut to what the array has, is the list's

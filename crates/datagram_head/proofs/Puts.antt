@@ -1,4 +1,5 @@
 -- Puts, one behind the other: the room that each finds, and what they come to together.
+use Rattle.std.specs.Prelude.{Option, Some, None, MatchOption, IsSomeAnd}
 use Prim.Native.Nat.{ℕ, ◌+◌, ◌*◌, ◌≤◌}
 use mathlib.Core.Path.{◌≡◌, sym, ap, ◌∙◌}
 use mathlib.Core.Bool.{Bool, true, false}
@@ -6,7 +7,7 @@ use mathlib.Core.List.{List, [], ◌++◌}
 use native.Mathlib.Omega.{arith}
 use lib.ListN.{length, length-append}
 use Rattle.octets.specs.Bytes.{placed}
-use Rattle.octets.specs.Field.{Field, when}
+use Rattle.octets.specs.Field.{Field, when, given_print}
 use Rattle.octets.proofs.Lists.{length-placed, placed-none, placed-append}
 use Rattle.layout.specs.Layout.{one}
 use Rattle.datagram_head.specs.Steps.{Room, Put}
@@ -54,6 +55,27 @@ module _ {A : Type 0} (b : Bool) (blank : A) (F : Field A) (a : A) where
       let n : (when b blank F).print a ≡ [] = rw e in
       let k : at ≤ length l = omega (arith, h.room) in
       rw n (record { place = omega arith; bytes = sym (placed-none at l k) })
+
+-- ---- a field of an Option
+
+module _ {A : Type 0} (F : Field A) (o : Option A) where
+  pub some-room : {a : A} {at : ℕ} {l : List ℕ} → o ≡ Some a → Room (given_print F o) at l → Room (F.print a) at l
+  some-room e h = rw e at h
+
+  pub some-put : {a : A} {at next : ℕ} {l x : List ℕ} → o ≡ Some a → Put (F.print a) at l next x → Put (given_print F o) at l next x
+  some-put e p = rw e p
+
+  pub none-put : {at : ℕ} {l : List ℕ} → o ≡ None → Room (given_print F o) at l → Put (given_print F o) at l at l
+  none-put {at} {l} e h =
+      let n : given_print F o ≡ [] = rw e in
+      let k : at ≤ length l = omega (arith, h.room) in
+      rw n (record { place = omega arith; bytes = sym (placed-none at l k) })
+
+-- a number made wide is the same, where it is there
+pub widened : (o r : Option ℕ) → MatchOption o (r ≡ None) (λ x. IsSomeAnd r (λ y. y ≡ x)) → r ≡ o
+widened None r h = h
+widened (Some x) None h = absurd h
+widened (Some x) (Some y) h = ap Some h
 
 -- the weight of a bit
 pub weighed : (b : Bool) (w : ℕ) → b ≡ true → (w ≡ w * one b) × (w ≤ w)

@@ -1,94 +1,80 @@
-// Fields one after the other: each is put at the place where the last one ended. The groups are the reader's.
+// Fields one after the other: each is put at the place where the last one ended. The groups are the reader's. A buffer and a place in it stay two
+// parameters: octets and text put at a place of a buffer, and a struct of the two would be taken apart at each of their calls.
 ghost use Rattle.std.specs.Prelude.{◌≡◌};
-ghost use Rattle.layout.specs.Layout.{message_flags, opening, ends, way, options, layout};
+ghost use Rattle.layout.specs.Layout.{message_flags, opening_of, ends_of, way_of, options_of, opening, ends, way, options, layout};
+ghost use Rattle.datagram_bytes.specs.Bytes.{Typed};
 ghost use Rattle.datagram_head.specs.Steps.{Room, Put};
 
 use crate::{lists, numbers, texts};
-use envelope::{AddressText, CallText, Envelope};
-use layout::{Datagram, Flags, Hops};
+use layout::{Datagram, Flags};
 
 // The flags of a message; it has headers where it has one or more.
-fn flags_of(m: Datagram) -> Flags
-    ensures { result ≡ message_flags m }
+fn flags_of(m: &Datagram) -> Flags
+    ensures { result ≡ message_flags m.now }
 {
     Flags {
-        salt: m.fields.has_salt,
-        ttl: m.fields.has_ttl,
+        salt: m.fields.salt.is_some(),
+        ttl: m.fields.ttl.is_some(),
         headers: 1 <= m.fields.headers.count,
-        originator: m.fields.has_src,
-        link: m.has_link,
-        flood: m.has_flood,
-        route: m.has_route,
-        hops: m.has_hops,
-        fragment: m.fields.has_fragment,
-        stream: m.fields.has_stream,
+        originator: m.fields.src.is_some(),
+        link: m.link.is_some(),
+        flood: m.flood.is_some(),
+        route: m.route.is_some(),
+        hops: m.hops.is_some(),
+        fragment: m.fields.fragment.is_some(),
+        stream: m.fields.stream.is_some(),
     }
 }
 
 // Flags, id, salt, ttl.
-fn put_opening(f: Flags, id: u32, salt: i64, ttl: u32, out: &mut [u8], at: usize) -> usize
-    requires { Room (opening.print (f, (id, (salt, ttl)))) at out.old }
-    ensures { Put (opening.print (f, (id, (salt, ttl)))) at out.old result out.new }
+fn put_opening(m: &Datagram, out: &mut [u8], at: usize) -> usize
+    requires { Typed m.now × Room (opening.print (opening_of m.now)) at out.old }
+    ensures { Put (opening.print (opening_of m.now)) at out.old result out.new }
 {
-    let a = numbers::put_flags(f, out, at);
-    let b = numbers::put_id(id, out, a);
-    let c = numbers::put_salt(f.salt, salt, out, b);
-    numbers::put_if(f.ttl, ttl as u64, 4, out, c)
+    let e = &m.fields;
+    let a = numbers::put_flags(flags_of(m), out, at);
+    let b = numbers::put_id(e.id, out, a);
+    let c = numbers::put_salt(e.salt, out, b);
+    numbers::put_if(e.ttl.map(u64::from), 4, out, c)
 }
 
 // Destination, originator, link source.
-fn put_ends(
-    f: Flags,
-    dst: AddressText,
-    src: CallText,
-    link: CallText,
-    out: &mut [u8],
-    at: usize,
-) -> usize
-    requires { Room ((ends f).print (dst, (src, link))) at out.old }
-    ensures { Put ((ends f).print (dst, (src, link))) at out.old result out.new }
+fn put_ends(m: &Datagram, out: &mut [u8], at: usize) -> usize
+    requires { Room ((ends (message_flags m.now)).print (ends_of m.now)) at out.old }
+    ensures { Put ((ends (message_flags m.now)).print (ends_of m.now)) at out.old result out.new }
 {
-    let a = texts::put_address(dst, out, at);
-    let b = texts::put_call_if(f.originator, src, out, a);
-    texts::put_call_if(f.link, link, out, b)
+    let a = texts::put_address(&m.fields.dst, out, at);
+    let b = texts::put_call_if(m.fields.src, out, a);
+    texts::put_call_if(m.link, out, b)
 }
 
 // Flood hops, source route, traversed hops.
-fn put_way(f: Flags, flood: u8, route: Hops, hops: Hops, out: &mut [u8], at: usize) -> usize
-    requires { Room ((way f).print (flood, (route, hops))) at out.old }
-    ensures { Put ((way f).print (flood, (route, hops))) at out.old result out.new }
+fn put_way(m: &Datagram, out: &mut [u8], at: usize) -> usize
+    requires { Room ((way (message_flags m.now)).print (way_of m.now)) at out.old }
+    ensures { Put ((way (message_flags m.now)).print (way_of m.now)) at out.old result out.new }
 {
-    let a = numbers::put_if(f.flood, flood as u64, 1, out, at);
-    let b = lists::put_route(f.route, route, out, a);
-    lists::put_route(f.hops, hops, out, b)
+    let a = numbers::put_if(m.flood.map(u64::from), 1, out, at);
+    let b = lists::put_route(m.route, out, a);
+    lists::put_route(m.hops, out, b)
 }
 
 // Fragment, stream, headers.
-fn put_options(f: Flags, e: Envelope, out: &mut [u8], at: usize) -> usize
-    requires { Room ((options f).print ((e.mid, (e.index, e.total)), ((e.sid, (e.sn, e.gt)), e.headers))) at out.old }
-    ensures { Put ((options f).print ((e.mid, (e.index, e.total)), ((e.sid, (e.sn, e.gt)), e.headers))) at out.old result out.new }
+fn put_options(m: &Datagram, out: &mut [u8], at: usize) -> usize
+    requires { Room ((options (message_flags m.now)).print (options_of m.now)) at out.old }
+    ensures { Put ((options (message_flags m.now)).print (options_of m.now)) at out.old result out.new }
 {
-    let sid = e.sid;
-    let headers = e.headers;
-    let a = numbers::put_fragment(f.fragment, e.mid, e.index, e.total, out, at);
-    let b = texts::put_stream(f.stream, sid, e.sn, e.gt, out, a);
-    lists::put_headers(f.headers, headers, out, b)
+    let a = numbers::put_fragment(m.fields.fragment, out, at);
+    let b = texts::put_stream(&m.fields.stream, out, a);
+    lists::put_headers(m.fields.headers, out, b)
 }
 
 // The fields before the payload length.
-pub(crate) fn put_fields(m: Datagram, out: &mut [u8], at: usize) -> usize
-    requires { Room (layout.print m) at out.old }
-    ensures { Put (layout.print m) at out.old result out.new }
+pub(crate) fn put_fields(m: &Datagram, out: &mut [u8], at: usize) -> usize
+    requires { Typed m.now × Room (layout.print m.now) at out.old }
+    ensures { Put (layout.print m.now) at out.old result out.new }
 {
-    let f = flags_of(m);
-    let e = m.fields;
-    let dst = e.dst;
-    let src = e.src;
-    let link = m.link;
-    let route = m.route;
-    let hops = m.hops;
-    let a = put_opening(f, e.id, e.salt, e.ttl, out, at);
-    let b = put_ends(f, dst, src, link, out, a);
-    let c = put_way(f, m.flood, route, hops, out, b);
-    put_options(f, e, out, c)
+    let a = put_opening(m, out, at);
+    let b = put_ends(m, out, a);
+    let c = put_way(m, out, b);
+    put_options(m, out, c)
 }

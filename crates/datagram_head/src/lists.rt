@@ -1,7 +1,8 @@
-// Lists with their counts before them, where their flag is set.
-ghost use Rattle.std.specs.Prelude.{◌≡◌, ◌≤◌, take};
-ghost use Rattle.octets.specs.Field.{many_print};
-ghost use Rattle.layout.specs.Layout.{call, header, hops_if, headers_if};
+// Lists with their counts before them, where they are there.
+ghost use Rattle.std.specs.Prelude.{◌≡◌};
+ghost use Rattle.octets.specs.Words.{◌≤?◌};
+ghost use Rattle.octets.specs.Field.{given_print, many_print};
+ghost use Rattle.layout.specs.Layout.{call, header, hops, headers_if};
 ghost use Rattle.datagram_head.specs.Steps.{Room, Put};
 
 use crate::{numbers, texts};
@@ -9,60 +10,52 @@ use envelope::CallText;
 use headers::{Header, Headers};
 use layout::Hops;
 
-// The first n hops.
-fn put_hops(items: [CallText; 16], n: usize, out: &mut [u8], at: usize) -> usize
-    requires { (n ≤ 16) × (Room (many_print (call 1) (take n items)) at out.old) }
-    ensures { Put (many_print (call 1) (take n items)) at out.old result out.new }
+fn put_hops(hops: &[CallText], out: &mut [u8], at: usize) -> usize
+    requires { Room (many_print (call 1) hops.now) at out.old }
+    ensures { Put (many_print (call 1) hops.now) at out.old result out.new }
 {
     let mut next = at;
-    let mut i = 0;
-    while i < n {
-        let t = items[i];
-        next = texts::put_call(t, 1, out, next);
-        i += 1;
+    for hop in hops {
+        next = texts::put_call(hop, 1, out, next);
     }
     next
 }
 
-// The source route or the traversed hops, where the flag is set.
-pub(crate) fn put_route(has: bool, h: Hops, out: &mut [u8], at: usize) -> usize
-    requires { Room ((hops_if has).print h) at out.old }
-    ensures { Put ((hops_if has).print h) at out.old result out.new }
+// The source route or the traversed hops, where they are there. By value, as the headers below: of an array behind a reference the check does not
+// tell its length, which the count is cut to.
+pub(crate) fn put_route(route: Option<Hops>, out: &mut [u8], at: usize) -> usize
+    requires { Room (given_print hops route) at out.old }
+    ensures { Put (given_print hops route) at out.old result out.new }
 {
-    if !has {
+    let Some(h) = route else {
         return at;
-    }
+    };
     let n = lengths::at_most(h.count, 16);
-    let items = h.items;
     let next = numbers::put_number(n as u64, 1, out, at);
-    put_hops(items, n, out, next)
+    put_hops(&h.items[..n], out, next)
 }
 
-// The first n headers.
-fn put_items(items: [Header; 8], n: usize, out: &mut [u8], at: usize) -> usize
-    requires { (n ≤ 8) × (Room (many_print header (take n items)) at out.old) }
-    ensures { Put (many_print header (take n items)) at out.old result out.new }
+// The hops' twin stays: a call that puts one value of any field would need that field in its contract.
+fn put_items(items: &[Header], out: &mut [u8], at: usize) -> usize
+    requires { Room (many_print header items.now) at out.old }
+    ensures { Put (many_print header items.now) at out.old result out.new }
 {
     let mut next = at;
-    let mut i = 0;
-    while i < n {
-        let h = items[i];
-        next = texts::put_header(h, out, next);
-        i += 1;
+    for item in items {
+        next = texts::put_header(item, out, next);
     }
     next
 }
 
-// The headers, where the flag is set.
-pub(crate) fn put_headers(has: bool, h: Headers, out: &mut [u8], at: usize) -> usize
-    requires { Room ((headers_if has).print h) at out.old }
-    ensures { Put ((headers_if has).print h) at out.old result out.new }
+// The headers, where there are any.
+pub(crate) fn put_headers(h: Headers, out: &mut [u8], at: usize) -> usize
+    requires { Room ((headers_if (1 ≤? h.count)).print h) at out.old }
+    ensures { Put ((headers_if (1 ≤? h.count)).print h) at out.old result out.new }
 {
-    if !has {
+    if h.count < 1 {
         return at;
     }
     let n = lengths::at_most(h.count, 8);
-    let items = h.items;
     let next = numbers::put_number(n as u64, 2, out, at);
-    put_items(items, n, out, next)
+    put_items(&h.items[..n], out, next)
 }

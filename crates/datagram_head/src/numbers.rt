@@ -1,9 +1,10 @@
-// Numbers, flags and ids, each put at its place; those that may be absent, where their flag is set. Every put answers the place behind it.
+// Numbers, flags and ids, each put at its place; those that may be absent, where they are there. Every put answers the place behind it.
 ghost use Rattle.std.specs.Prelude.{◌≡◌, ◌*◌, ◌≤◌};
-ghost use Rattle.octets.specs.Field.{num, when};
-ghost use Rattle.layout.specs.Layout.{one, flags_number, flags, hex_id, salt_if, fragment_if};
+ghost use Rattle.octets.specs.Field.{num, signed_num, given_print};
+ghost use Rattle.layout.specs.Layout.{one, flags_number, flags, hex_id, fragment};
 ghost use Rattle.datagram_head.specs.Steps.{Room, Put};
 
+use envelope::Fragment;
 use layout::Flags;
 
 pub(crate) fn put_number(v: u64, width: usize, out: &mut [u8], at: usize) -> usize
@@ -14,14 +15,14 @@ pub(crate) fn put_number(v: u64, width: usize, out: &mut [u8], at: usize) -> usi
     at + width
 }
 
-// A number, where the flag is set.
-pub(crate) fn put_if(has: bool, v: u64, width: usize, out: &mut [u8], at: usize) -> usize
-    requires { Room ((when has 0 (num width)).print v) at out.old }
-    ensures { Put ((when has 0 (num width)).print v) at out.old result out.new }
+// A number, where it is there.
+pub(crate) fn put_if(v: Option<u64>, width: usize, out: &mut [u8], at: usize) -> usize
+    requires { Room (given_print (num width) v) at out.old }
+    ensures { Put (given_print (num width) v) at out.old result out.new }
 {
-    if !has {
+    let Some(v) = v else {
         return at;
-    }
+    };
     put_number(v, width, out, at)
 }
 
@@ -29,10 +30,7 @@ pub(crate) fn put_if(has: bool, v: u64, width: usize, out: &mut [u8], at: usize)
 fn bit(on: bool, weight: u64) -> u64
     ensures { (result ≡ weight * one on) × (result ≤ weight) }
 {
-    if on {
-        return weight;
-    }
-    0
+    if on { weight } else { 0 }
 }
 
 fn number_of(f: Flags) -> u64
@@ -66,33 +64,26 @@ pub(crate) fn put_id(id: u32, out: &mut [u8], at: usize) -> usize
     at + 7
 }
 
-pub(crate) fn put_salt(has: bool, salt: i64, out: &mut [u8], at: usize) -> usize
-    requires { Room ((salt_if has).print salt) at out.old }
-    ensures { Put ((salt_if has).print salt) at out.old result out.new }
+pub(crate) fn put_salt(salt: Option<i64>, out: &mut [u8], at: usize) -> usize
+    requires { Room (given_print signed_num salt) at out.old }
+    ensures { Put (given_print signed_num salt) at out.old result out.new }
 {
-    if !has {
+    let Some(salt) = salt else {
         return at;
-    }
+    };
     octets::put_i64(salt, out, at);
     at + 8
 }
 
-// Master id, index and total, where the flag is set.
-pub(crate) fn put_fragment(
-    has: bool,
-    mid: u32,
-    index: u16,
-    total: u16,
-    out: &mut [u8],
-    at: usize,
-) -> usize
-    requires { Room ((fragment_if has).print (mid, (index, total))) at out.old }
-    ensures { Put ((fragment_if has).print (mid, (index, total))) at out.old result out.new }
+// Master id, index and total, where they are there.
+pub(crate) fn put_fragment(part: Option<Fragment>, out: &mut [u8], at: usize) -> usize
+    requires { Room (given_print fragment part) at out.old }
+    ensures { Put (given_print fragment part) at out.old result out.new }
 {
-    if !has {
+    let Some(f) = part else {
         return at;
-    }
-    let a = put_id(mid, out, at);
-    let b = put_number(index as u64, 2, out, a);
-    put_number(total as u64, 2, out, b)
+    };
+    let a = put_id(f.mid, out, at);
+    let b = put_number(f.index as u64, 2, out, a);
+    put_number(f.total as u64, 2, out, b)
 }

@@ -1,27 +1,27 @@
 -- Lists behind their counts, read one value after the other.
 use Prim.Native.Nat.{ℕ, zero, suc, ◌+◌, ◌-◌, ◌≤◌, ◌<◌}
 use mathlib.Core.Path.{◌≡◌, refl, ap, sym, ◌∙◌}
-use mathlib.Core.Bool.{Bool, true, false}
+use mathlib.Core.Bool.{Bool, true}
 use mathlib.Core.List.{List, [], ◌∷◌}
 use native.Mathlib.Omega.{arith}
 use native.Mathlib.Numerals.{add-one}
 use borrow.Author.Tests.{le-leb, lt-leb}
 use lib.ListN.{length, drop, set, replicate}
 use lib.Seq.{sets, sets-eq}
-use Rattle.octets.specs.Words.{◌and◌, ◌≤?◌}
+use Rattle.octets.specs.Words.{◌≤?◌, between}
 use Rattle.octets.specs.Field.{Res, bad, got, bind, Field, num, only, through, tagged, many, many_parse}
-use Rattle.octets.proofs.Tests.{if_no}
-use Rattle.octets.proofs.FieldLaws.{num_laws, bound}
+use Rattle.octets.proofs.Tests.{if_no, inside}
+use Rattle.octets.proofs.FieldLaws.{bound, many-laws}
 use Rattle.headers.specs.declared.Header.{Header}
 use Rattle.headers.specs.declared.Headers.{Headers}
 use Rattle.envelope.specs.declared.CallText.{CallText}
 use Rattle.envelope.specs.Texts.{call_text, header_text, with_header, no_headers}
 use Rattle.layout.specs.declared.Hops.{Hops}
 use Rattle.layout.specs.Texts.{hop_array}
-use Rattle.layout.specs.Layout.{call, hops, header_array}
-use Rattle.datagram_numbers.specs.Found.{found, finding}
+use Rattle.layout.specs.Layout.{call, hops, header, headers, header_array, headers_of}
 use Rattle.datagram_lists.specs.Found.{folded, list_from, further, hops_at, hops_from}
-use Rattle.datagram_numbers.proofs.Chains.{tail, rest, tail-length}
+use Rattle.layout.proofs.Laws.{call-laws}
+use Rattle.datagram_numbers.proofs.Chains.{tail, rest}
 
 -- ---- one hop, and the shorter list
 
@@ -45,31 +45,37 @@ hop-before at a l =
     rw (z, y, before-sets l (replicate 16 (call_text [])) at (suc at) a (omega arith))
 
 -- what was read, with a hop stored at its place and n bytes more
-abbrev stored : ℕ → CallText → ℕ → Res Hops → Res Hops
+abbrev pub stored : ℕ → CallText → ℕ → Res Hops → Res Hops
 stored at a n bad = bad
 stored at a n (got h m) = got (record { count = h.count; items = set h.items at a }) (n + m)
-
-pub hops-none : (k at : ℕ) (s : List ℕ) (r : Hops) → k ≡ 0 → r ≡ record { count = at; items = replicate 16 (call_text []) } → finding (hops_from k at s) s true r 0
-unfolding found hops_from
-hops-none k at s r e f = let z : at + 0 ≡ at = omega arith in (rw (e, f, z), omega arith)
 
 module _ (at n : ℕ) (a : CallText) where
   one_more : (x : Res (List CallText)) → bind (bind x (λ l m. got (a ∷ l) (n + m))) (λ l j. got (hops_at at l) j) ≡ stored at a n (bind x (λ l j. got (hops_at (at + 1) l) j))
   one_more bad = refl
   one_more (got l j) = ap (λ (h : Hops). got h (n + j)) (sym (hop-before at a l))
 
-  pub hops-more : (k m : ℕ) (s : List ℕ) (oa ok : Bool) (h : Hops) → (k ≡ 0 → ⊥) → finding ((call 1).parse s) s oa a n
-      → finding (hops_from (k - 1) (at + 1) (tail n s)) (tail n s) ok h m
-      → finding (hops_from k at s) s (oa and ok) (record { count = h.count; items = set h.items at a }) (n + m)
-  unfolding found hops_from
-  hops-more zero m s oa ok h d f g = absurd (d refl)
-  hops-more (suc k) m s false ok h d f g = (rw f.0, omega (arith, f.1, g.1, tail-length n s))
-  hops-more (suc k) m s true true h d f g =
+  pub hops-more : (k : ℕ) (s : List ℕ) → (k ≡ 0 → ⊥) → (call 1).parse s ≡ got a n → hops_from k at s ≡ stored at a n (hops_from (k - 1) (at + 1) (tail n s))
+  unfolding hops_from
+  hops-more zero s d e = absurd (d refl)
+  hops-more (suc k) s d e =
       let z : suc k - 1 ≡ k = omega arith in
-      (rw f.0 (one_more (many_parse (call 1) k (drop n s)) ∙ ap (stored at a n) (rw (z, rest n s) at g.0)), omega (arith, f.1, g.1, tail-length n s))
-  hops-more (suc k) m s true false h d f g =
-      let z : suc k - 1 ≡ k = omega arith in
-      (rw f.0 (one_more (many_parse (call 1) k (drop n s)) ∙ ap (stored at a n) (rw (z, rest n s) at g.0)), omega (arith, f.1, g.1, tail-length n s))
+      rw (e, z, rest n s) (one_more (many_parse (call 1) k (drop n s)))
+
+pub hops-none : (k at : ℕ) (s : List ℕ) → k ≡ 0 → hops_from k at s ≡ got (record { count = at; items = replicate 16 (call_text []) }) 0
+unfolding hops_from
+hops-none k at s e = let z : at + 0 ≡ at = omega arith in rw (e, z)
+
+pub hops-bad : (k at : ℕ) (s : List ℕ) → (k ≡ 0 → ⊥) → (call 1).parse s ≡ bad → hops_from k at s ≡ bad
+unfolding hops_from
+hops-bad zero at s d e = absurd (d refl)
+hops-bad (suc k) at s d e = rw e
+
+pub hops-room : (k at : ℕ) (s : List ℕ) (h : Hops) (m : ℕ) → hops_from k at s ≡ got h m → m ≤ length s
+unfolding hops_from
+hops-room k at s h m e =
+    let b = bound (many_parse (call 1) k s) (λ l n. got (hops_at at l) n) h m e in
+    let z : m ≡ b.used = cc in
+    rw z ((many-laws (call 1) k (call-laws 1)).room s b.val b.used b.first)
 
 -- ---- the count, and as many values
 
@@ -85,21 +91,13 @@ module _ {A S : Type 0} (F : Field A) (add : S → A → S) (start : S) (to : Li
   abbrev Counted : Field S
   Counted = through to from holds (tagged length (only p (num w)) (many F))
 
-  pub counted-short : (b : S) → (num w).parse s ≡ bad → finding (Counted.parse s) s false b 0
-  unfolding found
-  counted-short b e = (rw e, omega arith)
-
   module _ (k n : ℕ) (e : (num w).parse s ≡ got k n) where
-    pub counted-not : (b : S) → p k ≡ false → finding (Counted.parse s) s false b 0
-    unfolding found
-    counted-not b t = (rw (e, t), omega arith)
-
     each-added : (x : Res (List A)) → ((l : List A) (j : ℕ) → x ≡ got l j → folded add start l ≡ to l)
         → bind (bind x (λ l m. got l (n + m))) (λ l n. got (to l) n) ≡ further n (bind x (λ l j. got (folded add start l) j))
     each-added bad h = refl
     each-added (got l j) h = ap (λ q. got q (n + j)) (sym (h l j refl))
 
-    -- the same as an equation: what is read behind the count, and the count's bytes on top
+    -- what is read behind the count, and the count's bytes on top
     pub counted_is : p k ≡ true → ((l : List A) → length l ≡ k → folded add start l ≡ to l) → Counted.parse s ≡ further n (list_from F add k start (drop n s))
     unfolding list_from
     counted_is t h = rw (e, t) (each-added (many_parse F k (drop n s)) (λ l j q. h l (many-length F k (drop n s) l j q)))
@@ -128,27 +126,17 @@ all-headers l h = folded-headers l no_headers (omega arith) ∙ (let z : 0 + len
 first-hops : (l : List CallText) → length l ≤ 16 → hops_at 0 l ≡ hop_array l
 first-hops l h = let z : 0 + length l ≡ length l = omega arith in rw (sets-eq l (replicate 16 (call_text [])) 0 (omega arith), z)
 
-each_first : (n m : ℕ) (h : Hops) (x : Res (List CallText)) (ok : Bool) → ((l : List CallText) (j : ℕ) → x ≡ got l j → hops_at 0 l ≡ hop_array l)
-    → found (bind x (λ l j. got (hops_at 0 l) j)) ok h m → found (bind (bind x (λ l m. got l (n + m))) (λ l j. got (hop_array l) j)) ok h (n + m)
-unfolding found
-each_first n m h bad true q g = let z : ◌≡◌ {A = ℕ} 0 1 = cc in absurd (omega arith)
-each_first n m h bad false q g = refl
-each_first n m h (got l j) true q g = let z = q l j refl in cc
-each_first n m h (got l j) false q g = let z : ◌≡◌ {A = ℕ} 0 1 = cc in absurd (omega arith)
+pub hops-counted : (s : List ℕ) (k n : ℕ) → (num 1).parse s ≡ got k n → k ≤ 16 → hops.parse s ≡ further n (hops_from k 0 (tail n s))
+unfolding hops hops_from
+hops-counted s k n e i = rw (e, le-leb k 16 i, rest n s) (go (many_parse (call 1) k (drop n s)) refl)
+  where
+    go : (x : Res (List CallText)) → many_parse (call 1) k (drop n s) ≡ x → bind (bind x (λ l m. got l (n + m))) (λ l j. got (hop_array l) j) ≡ further n (bind x (λ l j. got (hops_at 0 l) j))
+    go bad q = refl
+    go (got l j) q = ap (λ (h : Hops). got h (n + j)) (sym (first-hops l (omega (arith, many-length (call 1) k (drop n s) l j q))))
 
-module _ (s : List ℕ) where
-  pub hops-short : (h : Hops) → (num 1).parse s ≡ bad → finding (hops.parse s) s false h 0
-  unfolding hops found
-  hops-short h e = (rw e, omega arith)
+-- ---- the count of headers, and as many of them
 
-  module _ (k n : ℕ) (e : (num 1).parse s ≡ got k n) where
-    pub hops-not : (h : Hops) → 16 < k → finding (hops.parse s) s false h 0
-    unfolding hops found
-    hops-not h i = (rw (e, lt-leb k 16 i), omega arith)
-
-    pub hops-counted : (ok : Bool) (h : Hops) (m : ℕ) → k ≤ 16 → finding (hops_from k 0 (tail n s)) (tail n s) ok h m → finding (hops.parse s) s ok h (n + m)
-    unfolding hops hops_from
-    hops-counted ok h m i f = (
-      rw (e, le-leb k 16 i) (each_first n m h (many_parse (call 1) k (drop n s)) ok (λ l j q. first-hops l (omega (arith, many-length (call 1) k (drop n s) l j q))) (rw (rest n s) at f.0)),
-      omega (arith, f.1, (num_laws 1).room s k n e, tail-length n s),
-    )
+pub headers-counted : (s : List ℕ) (k n : ℕ) → (num 2).parse s ≡ got k n → 1 ≤ k → k ≤ 8 → headers.parse s ≡ further n (list_from header with_header k no_headers (tail n s))
+unfolding headers
+headers-counted s k n e i j =
+    rw (rest n s) (counted_is header with_header no_headers header_array headers_of (λ h. h.count ≤? 8) (between 1 8) 2 s k n e (inside 1 8 k i j) (λ l q. all-headers l (omega (arith, q, j))))

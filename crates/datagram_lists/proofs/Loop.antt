@@ -14,14 +14,19 @@ further-both : {S : Type 0} (n m : ℕ) (x : Res S) → further n (further m x) 
 further-both n m bad = refl
 further-both n m (got b j) = let z : n + (m + j) ≡ n + m + j = omega arith in rw z
 
+none-more : {S : Type 0} (x : Res S) → further 0 x ≡ x
+none-more bad = refl
+none-more (got b j) = let z : 0 + j ≡ j = omega arith in rw z
+
 module _ {A S : Type 0} (F : Field A) (add : S → A → S) where
   one_more : (k n : ℕ) (start : S) (a : A) (x : Res (List A)) → bind (bind x (λ l m. got (a ∷ l) (n + m))) (λ l j. got (folded add start l) j)
       ≡ further n (bind x (λ l j. got (folded add (add start a) l) j))
   one_more k n start a bad = refl
   one_more k n start a (got l j) = refl
 
-  pub loop-start : (k n : ℕ) (start now : S) (s : List ℕ) → now ≡ start → further n (list_from F add k start (drop n s)) ≡ further n (list_from F add (k - 0) now (drop n s))
-  loop-start k n start now s e = rw (e, sub-zero)
+  pub loop-start : (k : ℕ) (start now : S) (s : List ℕ) → now ≡ start → list_from F add k start s ≡ further 0 (list_from F add (k - 0) now (drop 0 s))
+  unfolding list_from
+  loop-start k start now s e = rw (e, sub-zero) (sym (none-more (list_from F add k start s)))
 
   pub loop-next : (k i at n : ℕ) (now next : S) (a : A) (s : List ℕ) (x : Res S) → i < k → x ≡ further at (list_from F add (k - i) now (drop at s))
       → F.parse (tail at s) ≡ got a n → next ≡ add now a → x ≡ further (at + n) (list_from F add (k - (i + 1)) next (drop (at + n) s))

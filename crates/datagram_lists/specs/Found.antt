@@ -1,24 +1,16 @@
--- What the readers of a datagram's lists answer: what reading the fields finds, and blanks where they are not there.
-use Rattle.std.specs.Prelude.{ℕ, ◌+◌, true, false, List, [], ◌∷◌, length, replicate}
+-- What the readers of a datagram's lists answer: what reading the fields finds, its values held in a struct of the code.
+use Rattle.std.specs.Prelude.{ℕ, ◌+◌, List, [], ◌∷◌, length, replicate}
 use Rattle.std.proofs.lemmas.List.Edits.{sets}
 use Rattle.octets.specs.Field.{Res, bad, got, bind, Field, many_parse}
-use Rattle.headers.specs.declared.Headers.{Headers}
-use Rattle.held_texts.specs.Texts.{no_headers}
 use Rattle.envelope.specs.declared.CallText.{CallText}
 use Rattle.layout.specs.declared.Hops.{Hops}
-use Rattle.layout.specs.Texts.{no_hops}
 use Rattle.envelope.specs.Texts.{call_text}
-use Rattle.layout.specs.Layout.{Way, call}
-use Rattle.datagram_lists.specs.declared.WayFound.{WayFound}
-use Rattle.datagram_lists.specs.declared.HeadersFound.{HeadersFound}
+use Rattle.layout.specs.Layout as layout
+use Rattle.layout.specs.Layout.{call}
+use Rattle.datagram_lists.specs.declared.Way.{Way}
 
-abbrev pub way_found : Res Way → WayFound
-way_found bad = record { ok = false; used = 0; flood = 0; route = no_hops; hops = no_hops }
-way_found (got x n) = record { ok = true; used = n; flood = x.0; route = x.1.0; hops = x.1.1 }
-
-abbrev pub headers_found : Res Headers → HeadersFound
-headers_found bad = record { ok = false; used = 0; headers = no_headers }
-headers_found (got h n) = record { ok = true; used = n; headers = h }
+abbrev pub way_held : layout.Way → Way
+way_held x = record { flood = x.0; route = x.1.0; hops = x.1.1 }
 
 -- ---- what private readers promise one another; no public promise speaks of it
 

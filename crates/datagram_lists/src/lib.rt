@@ -1,86 +1,55 @@
 // Document 01, "The datagram": its lists, each behind its count. Flood hops, source route and traversed hops; the headers.
-// A reader answers whether its fields are there, how many bytes they took and their values; where they are not there, everything else is blank.
+// A reader answers its value with the number of bytes that it took, and nothing where its fields are not there.
 #![tactic(auto)]
 
 ghost use Rattle.std.specs.Prelude.{◌≡◌};
+ghost use Rattle.octets.specs.Reading.{read_as};
 ghost use Rattle.layout.specs.Layout.{way, headers_if};
-ghost use Rattle.datagram_lists.specs.Found.{way_found, headers_found};
+ghost use Rattle.datagram_lists.specs.Found.{way_held};
 
 use headers::Headers;
 use layout::{Flags, Hops};
-use octets::Read16;
 
 mod headings;
 mod routes;
 
 // Flood hops, source route, traversed hops.
 #[derive(Clone, Copy)]
-pub struct WayFound {
-    pub ok: bool,
-    pub used: usize,
-    pub flood: u8,
-    pub route: Hops,
-    pub hops: Hops,
-}
-
-#[derive(Clone, Copy)]
-pub struct HeadersFound {
-    pub ok: bool,
-    pub used: usize,
-    pub headers: Headers,
+pub struct Way {
+    pub flood: Option<u8>,
+    pub route: Option<Hops>,
+    pub hops: Option<Hops>,
 }
 
 // Flood hops, source route, traversed hops.
-pub fn read_way(d: &[u8], flags: Flags) -> WayFound
-    ensures { result ≡ way_found ((way flags).parse d.now) }
+#[tactic(auto, unfolding(layout::specs::Layout::way))]
+pub fn read_way(d: &[u8], flags: Flags) -> Option<(Way, usize)>
+    ensures { result ≡ read_as way_held ((way flags).parse d.now) }
 {
-    let a = datagram_numbers::read_flood(d, flags.flood);
-    let n1 = a.used;
+    let (flood, n1) = datagram_numbers::read_if::<u8>(d, flags.flood)?;
     let d1 = &d[n1..];
-    let b = routes::read_route(d1, flags.route);
-    let n2 = b.used;
+    let (route, n2) = routes::read_route(d1, flags.route)?;
     let d2 = &d1[n2..];
-    let c = routes::read_route(d2, flags.hops);
-    let ok = datagram_numbers::both(a.ok, datagram_numbers::both(b.ok, c.ok));
-    if !ok {
-        let route = layout::no_hops();
-        let hops = layout::no_hops();
-        return WayFound {
-            ok: false,
-            used: 0,
-            flood: 0,
-            route,
-            hops,
-        };
-    }
-    let route = b.hops;
-    let hops = c.hops;
-    WayFound {
-        ok: true,
-        used: n1 + (n2 + c.used),
-        flood: a.value,
-        route,
-        hops,
-    }
+    let (hops, n3) = routes::read_route(d2, flags.hops)?;
+    Some((Way { flood, route, hops }, n1 + n2 + n3))
 }
 
 // The headers, where the flag is set: 1 to 8 of them.
-#[tactic(auto, using(crate::proofs::Few::headers_few))]
-pub fn read_headers(d: &[u8], has: bool) -> HeadersFound
-    ensures { result ≡ headers_found ((headers_if has).parse d.now) }
+#[tactic(auto, unfolding(layout::specs::Layout::headers))]
+pub fn read_headers(d: &[u8], has: bool) -> Option<(Headers, usize)>
+    ensures { result ≡ read_as (λ h. h) ((headers_if has).parse d.now) }
 {
     if !has {
-        return headings::no_headers(true);
+        return Some((held_texts::no_headers(), 0));
     }
-    let c = octets::read_u16(d);
-    let Read16::Got(v, n) = c else {
-        return headings::no_headers(false);
-    };
-    if v < 1 {
-        return headings::no_headers(false);
+    let (count, n1) = octets::read::<u16>(d)?;
+    if count < 1 {
+        return None;
     }
-    if 8 < v {
-        return headings::no_headers(false);
+    if 8 < count {
+        return None;
     }
-    headings::read_items(d, n, v as usize)
+    let d1 = &d[n1..];
+    let (headers, n2) = headings::read_items(d1, usize::from(count))?;
+    Some((headers, n1 + n2))
 }

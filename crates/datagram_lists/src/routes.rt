@@ -1,89 +1,42 @@
-// Hops: a list is one hop followed by a shorter list. What a reader answers where its field is not there says nothing but that; the bytes used are
-// never more than there are.
-ghost use Rattle.std.specs.Prelude.{◌≡◌, ◌+◌, ◌≤◌, length};
-ghost use Rattle.layout.specs.Texts.{no_hops};
+// Hops: a list is one hop followed by a shorter list.
+ghost use Rattle.std.specs.Prelude.{◌≡◌, ◌+◌, ◌≤◌};
+ghost use Rattle.octets.specs.Reading.{read_as};
 ghost use Rattle.layout.specs.Layout.{hops_if};
-ghost use Rattle.datagram_numbers.specs.Found.{finding};
 ghost use Rattle.datagram_lists.specs.Found.{hops_from};
 
-use envelope::CallText;
 use layout::Hops;
-use octets::Read8;
 
-// The array stands first: nothing lies between it and the answer's start, and it is copied less often.
-#[derive(Clone, Copy)]
-struct HopsFound {
-    items: [CallText; 16],
-    count: usize,
-    ok: bool,
-    used: usize,
-}
-
-#[derive(Clone, Copy)]
-pub(crate) struct RouteFound {
-    pub hops: Hops,
-    pub ok: bool,
-    pub used: usize,
-}
-
-// k hops, of which the first has the place `at`: one hop, and the shorter list behind it. The hop stands in the array that the shorter list came in,
-// so that no array is handed on.
-fn read_hops(d: &[u8], k: usize, at: usize) -> HopsFound
-    requires { at + k ≤ 16 }
-    ensures { (finding (hops_from k at d.now) d.now result.ok (record { count = result.count; items = result.items }) result.used) × (length result.items ≡ 16) }
+// As many hops, of which the first has the place `at`: one hop, and the shorter list behind it. The hop is stored in the array that the shorter
+// list came in.
+fn read_hops(d: &[u8], count: usize, at: usize) -> Option<(Hops, usize)>
+    requires { at + count ≤ 16 }
+    ensures { result ≡ read_as (λ h. h) (hops_from count at d.now) }
 {
-    if k == 0 {
-        let none = layout::no_hops();
-        let items = none.items;
-        return HopsFound {
-            items,
-            count: at,
-            ok: true,
-            used: 0,
-        };
+    if count == 0 {
+        let mut hops = layout::no_hops();
+        hops.count = at;
+        return Some((hops, 0));
     }
-    let h = datagram_texts::read_hop(d);
-    let n = h.used;
-    let hop = h.hop;
-    let mut r = read_hops(&d[n..], k - 1, at + 1);
-    let used = n + r.used;
-    let ok = datagram_numbers::both(h.ok, r.ok);
-    r.items[at] = hop;
-    r.used = used;
-    r.ok = ok;
-    r
-}
-
-fn no_route(ok: bool) -> RouteFound
-    ensures { result ≡ record { hops = no_hops; ok = ok; used = 0 } }
-{
-    let hops = layout::no_hops();
-    RouteFound { hops, ok, used: 0 }
+    let (hop, n1) = datagram_texts::read_hop(d)?;
+    let d1 = &d[n1..];
+    let (mut hops, n2) = read_hops(d1, count - 1, at + 1)?;
+    hops.items[at] = hop;
+    Some((hops, n1 + n2))
 }
 
 // The source route or the traversed hops, where the flag is set: 0 to 16 hops.
-pub(crate) fn read_route(d: &[u8], has: bool) -> RouteFound
-    ensures { finding ((hops_if has).parse d.now) d.now result.ok result.hops result.used }
+#[tactic(auto, unfolding(layout::specs::Layout::hops))]
+pub(crate) fn read_route(d: &[u8], has: bool) -> Option<(Option<Hops>, usize)>
+    ensures { result ≡ read_as (λ h. h) ((hops_if has).parse d.now) }
 {
     if !has {
-        return no_route(true);
+        return Some((None, 0));
     }
-    let c = octets::read_u8(d);
-    let Read8::Got(v, n) = c else {
-        return no_route(false);
-    };
-    if 16 < v {
-        return no_route(false);
+    let (count, n1) = octets::read::<u8>(d)?;
+    if 16 < count {
+        return None;
     }
-    let r = read_hops(&d[n..], v as usize, 0);
-    let items = r.items;
-    let hops = Hops {
-        count: r.count,
-        items,
-    };
-    RouteFound {
-        hops,
-        ok: r.ok,
-        used: n + r.used,
-    }
+    let d1 = &d[n1..];
+    let (hops, n2) = read_hops(d1, usize::from(count), 0)?;
+    Some((Some(hops), n1 + n2))
 }

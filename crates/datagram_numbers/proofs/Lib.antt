@@ -1,6 +1,4 @@
 -- What the readers' tests come to, and what every public contract must show.
-pub mod Answers
-pub mod Says
 pub mod Chains
 pub mod Ids
 pub mod Unique

@@ -1,149 +1,73 @@
 // Document 01, "The datagram": its numbers. Flags, id, salt and ttl; flood hops; a fragment's master id, index and total.
-// Each field is read from the part that begins where the last one ended. A reader answers whether its field is there, how many bytes it took and
-// its value; where it is not there, everything else is blank.
+// Each field is read from the part that begins where the last one ended. A reader answers its value with the number of bytes that it took, and
+// nothing where its field is not there.
 #![tactic(auto)]
 
-ghost use Rattle.std.specs.Prelude.{◌≡◌};
-ghost use Rattle.octets.specs.Words.{◌and◌};
-ghost use Rattle.octets.specs.Field.{num};
-ghost use Rattle.layout.specs.Layout.{flood_if, fragment_if, opening};
-ghost use Rattle.datagram_numbers.specs.Found.{found8, found32, opening_found, fragment_found};
+ghost use Rattle.std.specs.Prelude.{◌≡◌, option_map};
+ghost use Rattle.octets.specs.Field.{num, given};
+ghost use Rattle.octets.specs.Reading.{read_as};
+ghost use Rattle.layout.specs.Layout.{fragment_if, opening};
+ghost use Rattle.datagram_numbers.specs.Found.{opening_held};
 
+use envelope::Fragment;
 use layout::Flags;
-use octets::{Read8, Read32};
+use octets::Little;
 
 mod numbers;
 
-#[derive(Clone, Copy)]
-pub struct Found8 {
-    pub ok: bool,
-    pub used: usize,
-    pub value: u8,
-}
-
-#[derive(Clone, Copy)]
-pub struct Found32 {
-    pub ok: bool,
-    pub used: usize,
-    pub value: u32,
-}
-
 // Flags, id, salt, ttl.
 #[derive(Clone, Copy)]
-pub struct OpeningFound {
-    pub ok: bool,
-    pub used: usize,
+pub struct Opening {
     pub flags: Flags,
     pub id: u32,
-    pub salt: i64,
-    pub ttl: u32,
+    pub salt: Option<i64>,
+    pub ttl: Option<u32>,
 }
 
-// Master id, index, total.
-#[derive(Clone, Copy)]
-pub struct FragmentFound {
-    pub ok: bool,
-    pub used: usize,
-    pub mid: u32,
-    pub index: u16,
-    pub total: u16,
-}
-
-// Whether two fields are both there.
-pub fn both(a: bool, b: bool) -> bool
-    ensures { result ≡ a and b }
-{
-    if a {
-        return b;
-    }
-    false
-}
-
-// A number in four bytes.
-pub fn number32(d: &[u8]) -> Found32
-    ensures { result ≡ found32 ((num 4).parse d.now) }
-{
-    let n = octets::read_u32(d);
-    match n {
-        Read32::Got(value, used) => Found32 {
-            ok: true,
-            used,
-            value,
-        },
-        Read32::Short => Found32 {
-            ok: false,
-            used: 0,
-            value: 0,
-        },
-    }
-}
-
-// The flood hops, where the flag is set.
-pub fn read_flood(d: &[u8], has: bool) -> Found8
-    ensures { result ≡ found8 ((flood_if has).parse d.now) }
+// A number, where its flag is set.
+pub fn read_if<T: Little>(d: &[u8], has: bool) -> Option<(Option<T>, usize)>
+    ensures { result ≡ read_as (option_map T.value) ((given has (num T.width)).parse d.now) }
 {
     if !has {
-        return Found8 {
-            ok: true,
-            used: 0,
-            value: 0,
-        };
+        return Some((None, 0));
     }
-    let n = octets::read_u8(d);
-    match n {
-        Read8::Got(value, used) => Found8 {
-            ok: true,
-            used,
-            value,
-        },
-        Read8::Short => Found8 {
-            ok: false,
-            used: 0,
-            value: 0,
-        },
-    }
+    let (v, used) = octets::read::<T>(d)?;
+    Some((Some(v), used))
 }
 
 // Flags, id, salt, ttl.
-pub fn read_opening(d: &[u8]) -> OpeningFound
-    ensures { result ≡ opening_found (opening.parse d.now) }
+#[tactic(auto, unfolding(layout::specs::Layout::opening))]
+pub fn read_opening(d: &[u8]) -> Option<(Opening, usize)>
+    ensures { result ≡ read_as opening_held (opening.parse d.now) }
 {
-    let r = numbers::read_four(d);
-    if !r.ok {
-        return OpeningFound {
-            ok: false,
-            used: 0,
-            flags: numbers::flags_of(0),
-            id: 0,
-            salt: 0,
-            ttl: 0,
-        };
-    }
-    r
+    let (flags, n1) = numbers::read_flags(d)?;
+    let d1 = &d[n1..];
+    let (id, n2) = numbers::read_id(d1)?;
+    let d2 = &d1[n2..];
+    let (salt, n3) = read_if::<i64>(d2, flags.salt)?;
+    let d3 = &d2[n3..];
+    let (ttl, n4) = read_if::<u32>(d3, flags.ttl)?;
+    let opening = Opening {
+        flags,
+        id,
+        salt,
+        ttl,
+    };
+    Some((opening, n1 + n2 + n3 + n4))
 }
 
 // Master id, index and total, where the flag is set.
-pub fn read_fragment(d: &[u8], has: bool) -> FragmentFound
-    ensures { result ≡ fragment_found ((fragment_if has).parse d.now) }
+pub fn read_fragment(d: &[u8], has: bool) -> Option<(Option<Fragment>, usize)>
+    ensures { result ≡ read_as (λ f. f) ((fragment_if has).parse d.now) }
 {
     if !has {
-        return no_fragment(true);
+        return Some((None, 0));
     }
-    let r = numbers::read_three(d);
-    if !r.ok {
-        return no_fragment(false);
-    }
-    r
-}
-
-fn no_fragment(ok: bool) -> FragmentFound
-    ensures { result ≡ record { ok = ok; used = 0; mid = 0; index = 0; total = 0 } }
-{
-    FragmentFound {
-        ok,
-        used: 0,
-        mid: 0,
-        index: 0,
-        total: 0,
-    }
+    let (mid, n1) = numbers::read_id(d)?;
+    let d1 = &d[n1..];
+    let (index, n2) = octets::read::<u16>(d1)?;
+    let d2 = &d1[n2..];
+    let (total, n3) = octets::read::<u16>(d2)?;
+    let fragment = Fragment { mid, index, total };
+    Some((Some(fragment), n1 + n2 + n3))
 }

@@ -1,4 +1,2 @@
--- What the readers' tests come to, and what every public contract must show.
-pub mod Spans
-pub mod Says
+-- What every public contract must show.
 pub mod Unique

@@ -1,149 +1,71 @@
 // Document 01, "The datagram": its texts, each behind its length. Destination, originator and link source; a hop; a header; a stream's id and numbers.
-// Each field is read from the part that begins where the last one ended. A reader answers whether its field is there, how many bytes it took and
-// its value; where it is not there, everything else is blank.
+// Each field is read from the part that begins where the last one ended. A reader answers its value with the number of bytes that it took, and
+// nothing where its field is not there.
 #![tactic(auto)]
 
 ghost use Rattle.std.specs.Prelude.{◌≡◌};
+ghost use Rattle.octets.specs.Reading.{read_as};
 ghost use Rattle.layout.specs.Layout.{call, header, ends, stream_if};
-ghost use Rattle.datagram_texts.specs.Found.{hop_found, header_found, ends_found, stream_found};
+ghost use Rattle.datagram_texts.specs.Found.{ends_held};
 
-use envelope::{AddressText, CallText, StreamText};
+use envelope::{AddressText, CallText, Stream};
 use headers::Header;
 use layout::Flags;
 
-mod blanks;
 mod texts;
-
-#[derive(Clone, Copy)]
-pub struct HopFound {
-    pub ok: bool,
-    pub used: usize,
-    pub hop: CallText,
-}
-
-#[derive(Clone, Copy)]
-pub struct HeaderFound {
-    pub ok: bool,
-    pub used: usize,
-    pub header: Header,
-}
 
 // Destination, originator, link source.
 #[derive(Clone, Copy)]
-pub struct EndsFound {
-    pub ok: bool,
-    pub used: usize,
+pub struct Ends {
     pub dst: AddressText,
-    pub src: CallText,
-    pub link: CallText,
-}
-
-// Stream id, number, gap timeout.
-#[derive(Clone, Copy)]
-pub struct StreamFound {
-    pub ok: bool,
-    pub used: usize,
-    pub sid: StreamText,
-    pub sn: u32,
-    pub gt: u32,
+    pub src: Option<CallText>,
+    pub link: Option<CallText>,
 }
 
 // A hop: a callsign behind a length of one byte.
-pub fn read_hop(d: &[u8]) -> HopFound
-    ensures { result ≡ hop_found ((call 1).parse d.now) }
+#[tactic(auto, unfolding(layout::specs::Layout::call))]
+pub fn read_hop(d: &[u8]) -> Option<(CallText, usize)>
+    ensures { result ≡ read_as (λ t. t) ((call 1).parse d.now) }
 {
-    let s = texts::text8(d, 12);
-    if !s.ok {
-        return HopFound {
-            ok: false,
-            used: 0,
-            hop: CallText {
-                len: 0,
-                bytes: [0u8; 12],
-            },
-        };
-    }
-    let a = s.from;
-    let b = s.to;
-    let hop = envelope::call_text(&d[a..b]);
-    HopFound {
-        ok: true,
-        used: b,
-        hop,
-    }
+    let (s, used) = texts::text8(d, 12)?;
+    Some((envelope::call_text(s), used))
 }
 
 // A header: its key, then its value.
-pub fn read_header(d: &[u8]) -> HeaderFound
-    ensures { result ≡ header_found (header.parse d.now) }
+#[tactic(auto, unfolding(layout::specs::Layout::header))]
+pub fn read_header(d: &[u8]) -> Option<(Header, usize)>
+    ensures { result ≡ read_as (λ h. h) (header.parse d.now) }
 {
-    let r = texts::read_pair(d);
-    if !r.ok {
-        return HeaderFound {
-            ok: false,
-            used: 0,
-            header: Header {
-                key: [0u8; 32],
-                key_len: 0,
-                value: [0u8; 128],
-                value_len: 0,
-            },
-        };
-    }
-    r
+    let (key, n1) = texts::text16(d, 32)?;
+    let d1 = &d[n1..];
+    let (value, n2) = texts::text16(d1, 128)?;
+    Some((envelope::header_text(key, value), n1 + n2))
 }
 
 // Destination, originator, link source.
-pub fn read_ends(d: &[u8], flags: Flags) -> EndsFound
-    ensures { result ≡ ends_found ((ends flags).parse d.now) }
+#[tactic(auto, unfolding(layout::specs::Layout::ends))]
+pub fn read_ends(d: &[u8], flags: Flags) -> Option<(Ends, usize)>
+    ensures { result ≡ read_as ends_held ((ends flags).parse d.now) }
 {
-    let a = texts::read_address(d);
-    let n1 = a.used;
+    let (dst, n1) = texts::read_address(d)?;
     let d1 = &d[n1..];
-    let b = texts::read_call(d1, flags.originator);
-    let n2 = b.used;
+    let (src, n2) = texts::read_call(d1, flags.originator)?;
     let d2 = &d1[n2..];
-    let c = texts::read_call(d2, flags.link);
-    let ok = datagram_numbers::both(a.ok, datagram_numbers::both(b.ok, c.ok));
-    if !ok {
-        return blanks::no_ends();
-    }
-    let dst = a.text;
-    let src = b.text;
-    let link = c.text;
-    EndsFound {
-        ok: true,
-        used: n1 + (n2 + c.used),
-        dst,
-        src,
-        link,
-    }
+    let (link, n3) = texts::read_call(d2, flags.link)?;
+    Some((Ends { dst, src, link }, n1 + n2 + n3))
 }
 
 // Stream id, number and gap timeout, where the flag is set.
-pub fn read_stream(d: &[u8], has: bool) -> StreamFound
-    ensures { result ≡ stream_found ((stream_if has).parse d.now) }
+pub fn read_stream(d: &[u8], has: bool) -> Option<(Option<Stream>, usize)>
+    ensures { result ≡ read_as (λ s. s) ((stream_if has).parse d.now) }
 {
     if !has {
-        return blanks::no_stream(true);
+        return Some((None, 0));
     }
-    let a = texts::read_name(d);
-    let n1 = a.used;
+    let (sid, n1) = texts::read_name(d)?;
     let d1 = &d[n1..];
-    let b = datagram_numbers::number32(d1);
-    let n2 = b.used;
+    let (sn, n2) = octets::read::<u32>(d1)?;
     let d2 = &d1[n2..];
-    let c = datagram_numbers::number32(d2);
-    let ok = datagram_numbers::both(a.ok, datagram_numbers::both(b.ok, c.ok));
-    if !ok {
-        return blanks::no_stream(false);
-    }
-    let sid = a.text;
-    StreamFound {
-        ok: true,
-        used: n1 + (n2 + c.used),
-        sid,
-        sn: b.value,
-        gt: c.value,
-    }
+    let (gt, n3) = octets::read::<u32>(d2)?;
+    Some((Some(Stream { sid, sn, gt }), n1 + n2 + n3))
 }

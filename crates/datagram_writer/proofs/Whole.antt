@@ -1,12 +1,13 @@
 -- The whole datagram, from what was tested on the way: what each of the writer's ways out comes to.
-use Prim.Native.Nat.{ℕ, ◌+◌, ◌-◌, ◌≤◌, ◌<◌}
+use Prim.Native.Nat.{ℕ, ◌+◌, ◌≤◌, ◌<◌}
 use mathlib.Core.Path.{◌≡◌, refl, sym, ap, ◌∙◌}
+use Rattle.std.proofs.Common.{Option, Some, None}
 use mathlib.Core.Bool.{Bool, true, false}
-use mathlib.Core.List.{List, [], ◌∷◌, ◌++◌, append_assoc}
+use mathlib.Core.List.{List, ◌∷◌, ◌++◌, append_assoc}
 use native.Mathlib.Omega.{arith}
 use borrow.Author.Tests.{lt-ltb, le-ltb}
 use lib.ListN.{length, take, drop, length-append}
-use lib.Seq.{take-append_seam}
+use lib.Seq.{take-append_seam, length-take-le}
 use Rattle.octets.specs.Bytes.{front, placed}
 use Rattle.octets.specs.Field.{num}
 use Rattle.octets.proofs.Tests.{if_yes, if_no, no_true, no_false}
@@ -58,29 +59,30 @@ module _ (m : Datagram) (p l : List ℕ) where
 
 -- ---- the head, as the code has it
 
-pub head-room : (w a b : List ℕ) (n : ℕ) → n ≡ length w → b ≡ front w a → n ≤ length b
-head-room w a b n e f = rw f (omega (arith, e, length-append w (drop (length w) a)))
+pub head-room : (w a b : List ℕ) (n : ℕ) → n ≡ length w → b ≡ front w a → n ≡ length (take n b)
+head-room w a b n e f =
+    let h : n ≤ length b = rw f (omega (arith, e, length-append w (drop (length w) a))) in
+    sym (length-take-le n b h)
 
--- a message without a head is not valid; one with a head is, and this is its head
-pub no-head : (m : Datagram) (len n : ℕ) → n ≡ length (head.valid_head m len) → n ≡ 0 → valid m ≡ false
-unfolding head.valid_head head_bytes
-no-head m len n e f = go (valid m) refl
+-- a message without a head is not valid; one with a head is, and the head is as long
+pub no-head : (m : Datagram) (len : ℕ) (o : Option ℕ) → o ≡ head.head_length m len → o ≡ None → valid m ≡ false
+unfolding head.head_length
+no-head m len o e f = go (valid m) refl
   where
     go : (b : Bool) → valid m ≡ b → valid m ≡ false
     go false v = v
-    go true v =
-        let z : head.valid_head m len ≡ head_bytes m len = if_yes _ _ _ v in
-        absurd (omega (arith, ap length z))
+    go true v = let z : head.head_length m len ≡ Some (length (head_bytes m len)) = if_yes _ _ _ v in cc
 
-pub some-head : (m : Datagram) (len n : ℕ) → n ≡ length (head.valid_head m len) → (n ≡ 0 → ⊥) → valid m ≡ true
-unfolding head.valid_head
-some-head m len n e f = go (valid m) refl
+pub some-head : (m : Datagram) (len : ℕ) (o : Option ℕ) (n : ℕ) → o ≡ head.head_length m len → o ≡ Some n → (valid m ≡ true) × (n ≡ length (head.valid_head m len))
+unfolding head.head_length head.valid_head
+some-head m len o n e f = go (valid m) refl
   where
-    go : (b : Bool) → valid m ≡ b → valid m ≡ true
-    go true v = v
-    go false v =
-        let z : head.valid_head m len ≡ [] = if_no _ _ _ v in
-        absurd (f (omega (arith, ap length z)))
+    go : (b : Bool) → valid m ≡ b → (valid m ≡ true) × (n ≡ length (head.valid_head m len))
+    go true v =
+        let z : head.head_length m len ≡ Some (length (head_bytes m len)) = if_yes _ _ _ v in
+        let y : n ≡ length (head_bytes m len) = cc in
+        (v, y ∙ ap length (sym (if_yes _ _ _ v)))
+    go false v = let z : head.head_length m len ≡ None = if_no _ _ _ v in cc
 
 module _ (m : Datagram) (p : List ℕ) (n : ℕ) (v : valid m ≡ true) (e : n ≡ length (head.valid_head m (length p))) where
   is-head : head.valid_head m (length p) ≡ head_bytes m (length p)
@@ -92,10 +94,8 @@ module _ (m : Datagram) (p : List ℕ) (n : ℕ) (v : valid m ≡ true) (e : n �
   whole_length = sym (ap length (head-payload m p)) ∙ omega (arith, length-append (head_bytes m (length p)) p, ap length is-head)
 
   -- what the code lends of the head's array
-  pub head-part : (a b : List ℕ) → b ≡ front (head.valid_head m (length p)) a → take (n - 0) (drop 0 b) ≡ head_bytes m (length p)
-  head-part a b f =
-      let z : n - 0 ≡ length (head.valid_head m (length p)) = omega (arith, e) in
-      rw (z, f) (take-append_seam (head.valid_head m (length p)) _) ∙ is-head
+  pub head-part : (a b : List ℕ) → b ≡ front (head.valid_head m (length p)) a → take n b ≡ head_bytes m (length p)
+  head-part a b f = rw (e, f) (take-append_seam (head.valid_head m (length p)) _) ∙ is-head
 
   -- the head at the front, and the payload behind it
   pub all-written : (l : List ℕ) {c x y : List ℕ} → length p ≤ 4096 → n + length p ≤ length l → c ≡ head_bytes m (length p) → x ≡ placed c 0 l → y ≡ placed p n x

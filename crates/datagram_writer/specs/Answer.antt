@@ -1,22 +1,23 @@
 -- Document 01, "The datagram" and "Numbers the node says no with": what the writer answers, in the paper's order of refusals, and what the
--- lent buffer then holds. `says` gives the paper's number and values for each case of the answer's enum.
-use Rattle.std.specs.Prelude.{ℕ, List, length, if◌then◌else◌}
+-- lent buffer then holds. `says` gives the paper's number and values for each case of the code's answer.
+use Rattle.std.specs.Prelude.{ℕ, List, length, Result, Ok, Err, if◌then◌else◌}
 use Rattle.octets.specs.Words.{no, ◌<?◌}
 use Rattle.octets.specs.Bytes.{front}
+use Rattle.refusals.specs.declared.Refusal.{Refusal}
+use Rattle.refusals.specs.Refusals.{number_of}
 use Rattle.refusals.specs.Numbers.{payload_too_long, longest_payload, buffer_too_short, datagram_malformed}
 use Rattle.layout.specs.declared.Datagram.{Datagram}
 use Rattle.layout.specs.Rules.{valid}
 use Rattle.datagram_bytes.specs.Bytes.{bytes_of}
-use Rattle.datagram_writer.specs.declared.DatagramWriting.{DatagramWriting}
 
 -- how many bytes were written, or the number of the paper's table
 pub data Verdict : Type 0 where
   written : (bytes : ℕ) → Verdict
   refused_with : (number : ℕ) → Verdict
 
-abbrev pub says : DatagramWriting → Verdict
-says (DatagramWriting.Written n) = written n
-says (DatagramWriting.Refused n) = refused_with n
+abbrev pub says : Result ℕ Refusal → Verdict
+says (Ok n) = written n
+says (Err r) = refused_with (number_of r)
 
 -- 7 for the fields, 4 for the payload's length, then 5 for the room
 unfoldable pub write_of : Datagram → List ℕ → ℕ → Verdict

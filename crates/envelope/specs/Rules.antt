@@ -5,11 +5,13 @@ use Rattle.callsigns.specs.Callsign.{callsign}
 use Rattle.callsigns.specs.Destination.{destination}
 use Rattle.names.specs.Texts.{stream_id}
 use Rattle.headers.specs.Rule.{headers}
-pub use Rattle.field_rules.specs.Rules.{if_set}
+pub use Rattle.field_rules.specs.Rules.{if_some}
 unfoldable pub use Rattle.field_rules.specs.Rules.{id_in, ttl_in, fragment_in}
 use Rattle.envelope.specs.declared.CallText.{CallText}
 use Rattle.envelope.specs.declared.AddressText.{AddressText}
 use Rattle.envelope.specs.declared.StreamText.{StreamText}
+use Rattle.envelope.specs.declared.Fragment.{Fragment}
+use Rattle.envelope.specs.declared.Stream.{Stream}
 use Rattle.envelope.specs.declared.Envelope.{Envelope}
 
 -- a text: the first bytes of its array
@@ -32,13 +34,20 @@ address_in t = t.len ≤? 45 and destination (address_bytes t)
 unfoldable pub stream_in : StreamText → Bool
 stream_in t = t.len ≤? 255 and stream_id (stream_bytes t)
 
--- the fields are those of a valid message (`s`, `sn` and `gt` may be any number of their range)
+-- a fragment's numbers, and a stream with an id (its number and its gap may be any of their range)
+abbrev pub fragment_good : Fragment → Bool
+fragment_good f = fragment_in f.mid f.index f.total
+
+abbrev pub stream_good : Stream → Bool
+stream_good s = stream_in s.sid
+
+-- the fields are those of a valid message (the salt may be any number of its range)
 unfoldable pub envelope : Envelope → Bool
 envelope e =
     id_in e.id
-    and (if_set e.has_ttl (ttl_in e.ttl)
-    and (if_set e.has_src (call_in e.src)
-    and (if_set e.has_fragment (fragment_in e.mid e.index e.total)
-    and (if_set e.has_stream (stream_in e.sid)
+    and (if_some ttl_in e.ttl
+    and (if_some call_in e.src
+    and (if_some fragment_good e.fragment
+    and (if_some stream_good e.stream
     and (headers e.headers
     and address_in e.dst)))))

@@ -1,5 +1,5 @@
 // Document 01, "Names and fields": the fields that a line and a datagram share, and one set of rules for them.
-// A message is its fields up to their lengths and flags: what lies past a length or behind a clear flag is no part of it.
+// A message is its fields up to their lengths: what lies past a length is no part of it.
 #![tactic(auto)]
 
 ghost use Rattle.std.specs.Prelude.{◌≡◌};
@@ -32,30 +32,38 @@ pub struct StreamText {
     pub bytes: [u8; 255],
 }
 
-// The shared fields, in the order in which the line's writer has them, each that may be absent behind its flag.
+// Fragment `index` of `total` of the message `mid`.
 #[derive(Clone, Copy)]
-pub struct Envelope {
-    pub id: u32,
-    pub has_salt: bool,
-    pub salt: i64,
-    pub has_ttl: bool,
-    pub ttl: u32,
-    pub has_src: bool,
-    pub src: CallText,
-    pub has_fragment: bool,
+pub struct Fragment {
     pub mid: u32,
     pub index: u16,
     pub total: u16,
-    pub has_stream: bool,
+}
+
+// A stream: its id, the message's number, and how long a gap before it may stand open.
+#[derive(Clone, Copy)]
+pub struct Stream {
     pub sid: StreamText,
     pub sn: u32,
     pub gt: u32,
+}
+
+// The shared fields, in the order in which the line's writer has them, each that may be absent as an Option; no headers are a count of 0.
+#[derive(Clone, Copy)]
+pub struct Envelope {
+    pub id: u32,
+    pub salt: Option<i64>,
+    pub ttl: Option<u32>,
+    pub src: Option<CallText>,
+    pub fragment: Option<Fragment>,
+    pub stream: Option<Stream>,
     pub headers: Headers,
     pub dst: AddressText,
 }
 
 // ---- texts held in arrays, zero past their lengths; a text that is too long for its array is held as none
 
+#[tactic(auto, unfolding(held_texts::specs::Texts::padded))]
 pub fn call_text(s: &[u8]) -> CallText
     ensures { result ≡ call_text s.now }
 {
@@ -64,6 +72,7 @@ pub fn call_text(s: &[u8]) -> CallText
     CallText { len, bytes }
 }
 
+#[tactic(auto, unfolding(held_texts::specs::Texts::padded))]
 pub fn address_text(s: &[u8]) -> AddressText
     ensures { result ≡ address_text s.now }
 {
@@ -72,6 +81,7 @@ pub fn address_text(s: &[u8]) -> AddressText
     AddressText { len, bytes }
 }
 
+#[tactic(auto, unfolding(held_texts::specs::Texts::padded))]
 pub fn stream_text(s: &[u8]) -> StreamText
     ensures { result ≡ stream_text s.now }
 {
@@ -80,34 +90,19 @@ pub fn stream_text(s: &[u8]) -> StreamText
     StreamText { len, bytes }
 }
 
-// The fields of no message: what a reader answers beside a refusal.
+// The fields of no message: every number 0, every text empty, and nothing that may be absent.
+#[tactic(auto, unfolding(crate::specs::Texts::blank_envelope, held_texts::specs::Texts::padded, held_texts::specs::Texts::fitted))]
 pub fn blank() -> Envelope
     ensures { result ≡ blank_envelope }
 {
-    let headers = held_texts::no_headers();
     Envelope {
         id: 0,
-        has_salt: false,
-        salt: 0,
-        has_ttl: false,
-        ttl: 0,
-        has_src: false,
-        src: CallText {
-            len: 0,
-            bytes: [0u8; 12],
-        },
-        has_fragment: false,
-        mid: 0,
-        index: 0,
-        total: 0,
-        has_stream: false,
-        sid: StreamText {
-            len: 0,
-            bytes: [0u8; 255],
-        },
-        sn: 0,
-        gt: 0,
-        headers,
+        salt: None,
+        ttl: None,
+        src: None,
+        fragment: None,
+        stream: None,
+        headers: held_texts::no_headers(),
         dst: AddressText {
             len: 0,
             bytes: [0u8; 45],
@@ -118,15 +113,11 @@ pub fn blank() -> Envelope
 // ---- the rules
 
 // Whether a text held so is a callsign.
+#[tactic(auto, unfolding(crate::specs::Rules::call_in))]
 pub fn is_call(t: CallText) -> bool
     ensures { result ≡ call_in t }
 {
-    let n = t.len;
-    if 12 < n {
-        return false;
-    }
-    let bytes = t.bytes;
-    callsigns::is_callsign(&bytes[0..n])
+    t.len <= 12 && callsigns::is_callsign(&t.bytes[..t.len])
 }
 
 // Whether the fields are those of a valid message.
@@ -134,27 +125,23 @@ pub fn is_call(t: CallText) -> bool
 pub fn is_valid(e: Envelope) -> bool
     ensures { result ≡ envelope e }
 {
-    let src = e.src;
-    let sid = e.sid;
-    let headers = e.headers;
-    let dst = e.dst;
     if !field_rules::id_rule(e.id) {
         return false;
     }
-    if !field_rules::ttl_rule(e.has_ttl, e.ttl) {
+    if !field_rules::ttl_rule(e.ttl) {
         return false;
     }
-    if !rules::src_rule(e.has_src, src) {
+    if !rules::src_rule(e.src) {
         return false;
     }
-    if !field_rules::fragment_rule(e.has_fragment, e.mid, e.index, e.total) {
+    if !rules::fragment_rule(e.fragment) {
         return false;
     }
-    if !rules::stream_rule(e.has_stream, sid) {
+    if !rules::stream_rule(e.stream) {
         return false;
     }
-    if !headers::are_headers(headers) {
+    if !headers::are_headers(e.headers) {
         return false;
     }
-    rules::dst_rule(dst)
+    rules::dst_rule(e.dst)
 }

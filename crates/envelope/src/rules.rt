@@ -1,39 +1,34 @@
-// The rule of each text by itself; a text that may be absent keeps it where its flag is set.
+// The rule of each field by itself; one that may be absent keeps it where it is there.
 ghost use Rattle.std.specs.Prelude.{◌≡◌};
-ghost use Rattle.envelope.specs.Rules.{call_in, stream_in, address_in, if_set};
+ghost use Rattle.envelope.specs.Rules.{call_in, fragment_good, stream_good, address_in, if_some};
 
-use crate::{AddressText, CallText, StreamText};
+use crate::{AddressText, CallText, Fragment, Stream};
 
-pub(crate) fn src_rule(has: bool, src: CallText) -> bool
-    ensures { result ≡ if_set has (call_in src) }
+pub(crate) fn src_rule(src: Option<CallText>) -> bool
+    ensures { result ≡ if_some call_in src }
 {
-    if !has {
-        return true;
-    }
-    crate::is_call(src)
+    src.is_none_or(|t| crate::is_call(t))
 }
 
-pub(crate) fn stream_rule(has: bool, sid: StreamText) -> bool
-    ensures { result ≡ if_set has (stream_in sid) }
+pub(crate) fn fragment_rule(fragment: Option<Fragment>) -> bool
+    ensures { result ≡ if_some fragment_good fragment }
 {
-    if !has {
-        return true;
-    }
-    let n = sid.len;
-    if 255 < n {
-        return false;
-    }
-    let bytes = sid.bytes;
-    names::is_stream_id(&bytes[0..n])
+    fragment.is_none_or(|f| field_rules::fragment_rule(f.mid, f.index, f.total))
 }
 
+#[tactic(auto, unfolding(crate::specs::Rules::stream_in))]
+pub(crate) fn stream_rule(stream: Option<Stream>) -> bool
+    ensures { result ≡ if_some stream_good stream }
+{
+    let Some(Stream { sid, .. }) = stream else {
+        return true;
+    };
+    sid.len <= 255 && names::is_stream_id(&sid.bytes[..sid.len])
+}
+
+#[tactic(auto, unfolding(crate::specs::Rules::address_in))]
 pub(crate) fn dst_rule(dst: AddressText) -> bool
     ensures { result ≡ address_in dst }
 {
-    let n = dst.len;
-    if 45 < n {
-        return false;
-    }
-    let bytes = dst.bytes;
-    callsigns::is_destination(&bytes[0..n])
+    dst.len <= 45 && callsigns::is_destination(&dst.bytes[..dst.len])
 }

@@ -16,7 +16,7 @@ use Rattle.octets.specs.Bytes.{placed}
 use Rattle.octets.proofs.Tests.{if_yes, if_no, and_left, and_right}
 use Rattle.octets.proofs.Lists.{placed-in, length-placed}
 use Rattle.refusals.specs.Numbers.{payload_too_long, longest_payload}
-use Rattle.sha1_digest.specs.declared.Salt.{Salt}
+use Rattle.std.specs.Prelude.{Option, ℤ}
 use Rattle.sha1_digest.specs.declared.Sha1.{Sha1}
 use Rattle.sha1_digest.specs.Sha1.{sha1}
 use Rattle.sha1_digest.specs.Machine.{fed_all, finished}
@@ -158,17 +158,14 @@ pub record Sound (h : Between) : Type 0 where
   pub digest : h.session.mode ≡ 2 → (length h.received ≡ h.session.got) × (h.session.hash ≡ fed_all (salted h.session.terms) h.received)
   pub places : (i : ℕ) → i < length h.received → h.alone i ≡ true → get_or h.buffer i 0 ≡ get_or h.received i 0
 
-abbrev salt_of : Terms → Salt
-salt_of t = record { given = t.has_salt; value = t.salt }
-
 -- the id of bytes that come after a salt
-id-after : (t : Terms) (r : List ℕ) → length r ≤ longest_payload → id_number (finished (fed_all (salted t) r)) ≡ t.id → message_id (salt_of t) r ≡ is t.id
+id-after : (t : Terms) (r : List ℕ) → length r ≤ longest_payload → id_number (finished (fed_all (salted t) r)) ≡ t.id → message_id t.salt r ≡ is t.id
 id-after t r l e =
     let z : r ++ [] ≡ r = append-nil r in
-    ap (message_id (salt_of t)) (sym z) ∙ sym (id-of-pieces (salt_of t) (r ∷ []) (omega (arith, ap length z))) ∙ ap is e
+    ap (message_id t.salt) (sym z) ∙ sym (id-of-pieces t.salt (r ∷ []) (omega (arith, ap length z))) ∙ ap is e
 
 -- bytes that have an id are not too many
-id-few : (salt : Salt) (r : List ℕ) (n len : ℕ) → length r ≡ len → message_id salt r ≡ is n → len ≤ longest_payload
+id-few : (salt : Option ℤ) (r : List ℕ) (n len : ℕ) → length r ≡ len → message_id salt r ≡ is n → len ≤ longest_payload
 id-few salt r n len e q = go (longest_payload <? length r) refl q
   where
     go : (b : Bool) → (longest_payload <? length r) ≡ b → (if b then ids.refused payload_too_long else is (id_number (sha1 (salt_bytes salt ++ r)))) ≡ is n → len ≤ longest_payload
@@ -186,7 +183,7 @@ module _ (h : Between) (c : Lent) (k : Sound h) where
   record Right (r : List ℕ) (o : Outcome) : Type 0 where
     digest : o.step_record.next.mode ≡ 2 → (length r ≡ o.step_record.next.got) × (o.step_record.next.hash ≡ fed_all (salted o.step_record.next.terms) r)
     places : (i : ℕ) → i < length r → had i ≡ true → get_or o.payload i 0 ≡ get_or r i 0
-    message : (x : Terms) → o.step_record.happening.what ≡ what.message x → (length r ≡ x.len) × (message_id (salt_of x) r ≡ is x.id) × (longest_payload ≤ length o.payload)
+    message : (x : Terms) → o.step_record.happening.what ≡ what.message x → (length r ≡ x.len) × (message_id x.salt r ≡ is x.id) × (longest_payload ≤ length o.payload)
 
   -- a place whose byte came before is in the lent buffer as it was left
   as-left : (i : ℕ) → i < length h.received → had i ≡ true → get_or c.payload i 0 ≡ get_or h.received i 0
@@ -234,7 +231,7 @@ module _ (h : Between) (c : Lent) (k : Sound h) where
       -- the three facts, where the bytes used are bs
       right_by : (bs : List ℕ) (o : Out Session Happening) → take o.used c.piece ≡ bs → s.got + length bs ≤ s.terms.len
           → (o.state.mode ≡ 2 → (length (h.received ++ bs) ≡ o.state.got) × (o.state.hash ≡ fed_all (salted o.state.terms) (h.received ++ bs)))
-          → ((x : Terms) → o.happened.what ≡ what.message x → (length (h.received ++ bs) ≡ x.len) × (message_id (salt_of x) (h.received ++ bs) ≡ is x.id)) → Went o
+          → ((x : Terms) → o.happened.what ≡ what.message x → (length (h.received ++ bs) ≡ x.len) × (message_id x.salt (h.received ++ bs) ≡ is x.id)) → Went o
       right_by bs o u l d g =
           let e : (s.mode =? 2) ≡ true = eq-eqb _ _ m in
           let p : stored s (take o.used c.piece) c.payload ≡ placed bs s.got c.payload = if_yes _ _ _ e ∙ ap (λ (w : List ℕ). placed w s.got c.payload) u in
@@ -269,15 +266,15 @@ module _ (h : Between) (c : Lent) (k : Sound h) where
           let z : 0 + length bs ≡ i = omega arith in
           let f : fed_all s.hash bs ≡ fed_all (salted s.terms) (h.received ++ bs) = ap (λ (x : Sha1). fed_all x bs) n.1 ∙ sym (parts (salted s.terms) h.received bs) in
           let w : length (h.received ++ bs) ≡ s.terms.len = length-append h.received bs ∙ omega arith in
-          let v : id_number (finished (fed_all s.hash bs)) ≡ s.terms.id → message_id (salt_of s.terms) (h.received ++ bs) ≡ is s.terms.id =
+          let v : id_number (finished (fed_all s.hash bs)) ≡ s.terms.id → message_id s.terms.salt (h.received ++ bs) ≡ is s.terms.id =
           λ e. id-after s.terms (h.received ++ bs) (omega (arith, terms-bound s K)) (ap (λ (x : Sha1). id_number (finished x)) (sym f) ∙ e) in
           subst Went (sym o)
           (right_by bs _ (ap (λ (j : ℕ). take j c.piece) z) (omega arith) (λ e. absurd (not-two s.terms (fed_all s.hash bs) e))
           (λ x e. of-terms x (completed-message s.terms (fed_all s.hash bs) x e) (h.received ++ bs) w v))
         where
-          of-terms : (x : Terms) {p : Type 0} → (x ≡ s.terms) × p → (r : List ℕ) → length r ≡ s.terms.len → (p → message_id (salt_of s.terms) r ≡ is s.terms.id)
-              → (length r ≡ x.len) × (message_id (salt_of x) r ≡ is x.id)
-          of-terms x q r w v = subst (λ (y : Terms). (length r ≡ y.len) × (message_id (salt_of y) r ≡ is y.id)) (sym q.0) (w, v q.1)
+          of-terms : (x : Terms) {p : Type 0} → (x ≡ s.terms) × p → (r : List ℕ) → length r ≡ s.terms.len → (p → message_id s.terms.salt r ≡ is s.terms.id)
+              → (length r ≡ x.len) × (message_id x.salt r ≡ is x.id)
+          of-terms x q r w v = subst (λ (y : Terms). (length r ≡ y.len) × (message_id y.salt r ≡ is y.id)) (sym q.0) (w, v q.1)
 
       payload-right : Went O
       payload-right = go (dec_le s.terms.len (s.got + length c.piece))
@@ -292,7 +289,7 @@ module _ (h : Between) (c : Lent) (k : Sound h) where
   record Fair (g : Between) (o : Outcome) : Type 0 where
     digest : g.session.mode ≡ 2 → (length g.received ≡ g.session.got) × (g.session.hash ≡ fed_all (salted g.session.terms) g.received)
     places : (i : ℕ) → i < length g.received → g.alone i ≡ true → get_or g.buffer i 0 ≡ get_or g.received i 0
-    message : (x : Terms) → o.step_record.happening.what ≡ what.message x → (length g.received ≡ x.len) × (message_id (salt_of x) g.received ≡ is x.id) × (longest_payload ≤ length g.buffer)
+    message : (x : Terms) → o.step_record.happening.what ≡ what.message x → (length g.received ≡ x.len) × (message_id x.salt g.received ≡ is x.id) × (longest_payload ≤ length g.buffer)
 
   abbrev Asked : Outcome → Type 0
   Asked o = Fair (after_as o.step_record.answer h c o) o
@@ -353,7 +350,7 @@ module _ (cs : List Lent) (c : Lent) (t : Terms) (m : (call (after_all at_first 
   abbrev H : Between
   H = after (after_all at_first cs) c
 
-  pub message-right : (length H.received ≡ t.len) × (message_id (record { given = t.has_salt; value = t.salt }) H.received ≡ is t.id)
+  pub message-right : (length H.received ≡ t.len) × (message_id t.salt H.received ≡ is t.id)
   message-right = let r = (right (after_all at_first cs) c (all_sound cs)).message t m in (r.0, r.1)
 
   -- they stand at the buffer's front if it was left alone
@@ -368,5 +365,5 @@ module _ (cs : List Lent) (c : Lent) (t : Terms) (m : (call (after_all at_first 
       terms-few : t.len ≤ longest_payload
       terms-few = few ((right (after_all at_first cs) c (all_sound cs)).message t m)
         where
-          few : (length H.received ≡ t.len) × (message_id (salt_of t) H.received ≡ is t.id) × (longest_payload ≤ length H.buffer) → t.len ≤ longest_payload
-          few r = id-few (salt_of t) H.received t.id t.len r.0 r.1
+          few : (length H.received ≡ t.len) × (message_id t.salt H.received ≡ is t.id) × (longest_payload ≤ length H.buffer) → t.len ≤ longest_payload
+          few r = id-few t.salt H.received t.id t.len r.0 r.1

@@ -5,7 +5,6 @@ use native.Mathlib.Omega.{arith}
 use mathlib.Core.List.{List, ◌++◌}
 use lib.ListN.{replicate, length-replicate}
 use borrow.Author.Tests.{le-ltb}
-use Rattle.octets.specs.Bytes.{same}
 use Rattle.octets.proofs.Tests.{if_no}
 use Rattle.phrases.specs.Lines.{verb, spells, kind_of}
 use Rattle.replies.specs.Replies.{prompt}
@@ -28,7 +27,7 @@ unfolding open_of open_reply
 opens room h = (ap (λ (o : Opening). o.next) (if_no _ _ _ (le-ltb room 24 h)), if_no _ _ _ (le-ltb room 24 h))
 
 said : prompt ++ (seen feed reports listening who_quit).reply ≡ who_quit_heard
-unfolding same verb spells kind_of heard feed
+unfolding verb spells kind_of heard feed
 said = refl
 
 pub whole-case : (room : ℕ) (cs : List Lent) → 24 ≤ room → Goes (open_of room).next who_quit cs → hears room cs ≡ who_quit_heard

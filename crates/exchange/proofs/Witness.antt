@@ -1,11 +1,9 @@
 -- A message by computation: the premises of `message-right` and `message-stands` can be met, by a payload of no bytes.
 use Prim.Native.Nat.{ℕ}
-use lib.IntN.{pos}
+use Rattle.std.specs.Prelude.{None}
 use lib.ListN.{replicate}
-use mathlib.Core.Bool.{false}
 use mathlib.Core.Path.{◌≡◌, refl}
 use mathlib.Core.List.{List, [], ◌∷◌}
-use Rattle.octets.specs.Bytes.{same}
 use Rattle.utf8.specs.Utf8 as utf
 use Rattle.text.specs.Digits as digits
 use Rattle.callsigns.specs.Runs as runs
@@ -47,6 +45,6 @@ abbrev pub empty_data : Lent
 empty_data = lent (100 ∷ 97 ∷ 116 ∷ 97 ∷ 32 ∷ 100 ∷ 97 ∷ 51 ∷ 57 ∷ 97 ∷ 51 ∷ 101 ∷ 10 ∷ [])
 
 pub message-met : (call (after_all at_first (empty_offer ∷ [])).session empty_data).step_record.happening.what
-    ≡ what.message (record { id = 0xDA39A3E; has_salt = false; salt = pos 0; len = 0 })
-unfolding same utf.run digits.value runs.run runs.rest alnum suffix base_length callsign app_byte at_callsign destination reserved reserved_keys text_byte ruled id_text stream_id header_key header_value all_differ key_of keys_of value_of header headers bit_feed fitted padded id_in ttl_in fragment_in call_in stream_in address_in envelope has before after split present value others last_only keyed plain is_text framed payload_good singles_good is_part fragment_good stream_good headers_fit headers_of fields_of values_good well_formed chk_right refusal_of read_of line_of quarter scheduled schedule round rounds plus compressed padding fed verb spells kind_of is_data keeps_terms completed heard data_heard keeps_line keeps_payload keeps_session step_refusal feed step_of digits.digits
+    ≡ what.message (record { id = 0xDA39A3E; salt = None; len = 0 })
+unfolding utf.run digits.value runs.run runs.rest alnum suffix base_length callsign app_byte at_callsign destination reserved reserved_keys text_byte ruled id_text stream_id header_key header_value all_differ key_of keys_of value_of header headers bit_feed fitted padded id_in ttl_in fragment_in call_in stream_in address_in envelope has before after split present value others last_only keyed plain is_text framed payload_good singles_good is_part fragment_good stream_good headers_fit headers_of fields_of values_good well_formed chk_right refusal_of read_of line_of quarter scheduled schedule round rounds plus compressed padding fed verb spells kind_of is_data keeps_terms completed heard data_heard keeps_line keeps_payload keeps_session step_refusal feed step_of digits.digits
 message-met = refl

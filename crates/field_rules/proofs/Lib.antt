@@ -1,3 +1,2 @@
--- The rules as the code tests them, and what every public contract must show.
-pub mod Given
+-- What every public contract must show.
 pub mod Unique

@@ -1,5 +1,5 @@
 -- Document 01, "Names and fields": the rules of the numbers that a line and a datagram share.
-use Rattle.std.specs.Prelude.{ℕ, ◌^◌, Bool, true, if◌then◌else◌}
+use Rattle.std.specs.Prelude.{ℕ, ◌^◌, Bool, true, Option, Some, None}
 use Rattle.octets.specs.Words.{◌and◌, ◌<?◌, between}
 
 -- an id is 7 hexadecimal digits: a number of 28 bits
@@ -14,6 +14,7 @@ ttl_in v = between 1 2147483647 v
 unfoldable pub fragment_in : ℕ → ℕ → ℕ → Bool
 fragment_in mid n m = id_in mid and (between 2 65535 m and between 1 m n)
 
--- where the flag is set, the rule holds
-abbrev pub if_set : Bool → Bool → Bool
-if_set flag rule = if flag then rule else true
+-- where there is a value, the rule holds of it
+abbrev pub if_some : {A : Type 0} → (A → Bool) → Option A → Bool
+if_some rule None = true
+if_some rule (Some x) = rule x

@@ -1,11 +1,12 @@
 // Document 01, "Names and fields": the rules of the numbers that a line and a datagram share. A field that may be absent keeps its rule where
-// its flag is set.
+// it is there.
 #![tactic(auto)]
 
 ghost use Rattle.std.specs.Prelude.{◌≡◌};
-ghost use Rattle.field_rules.specs.Rules.{id_in, ttl_in, fragment_in, if_set};
+ghost use Rattle.field_rules.specs.Rules.{id_in, ttl_in, fragment_in, if_some};
 
 // An id, or a master id.
+#[tactic(auto, unfolding(crate::specs::Rules::id_in))]
 pub fn id_rule(id: u32) -> bool
     ensures { result ≡ id_in id }
 {
@@ -13,12 +14,12 @@ pub fn id_rule(id: u32) -> bool
 }
 
 #[tactic(auto, unfolding(crate::specs::Rules::ttl_in))]
-pub fn ttl_rule(has: bool, ttl: u32) -> bool
-    ensures { result ≡ if_set has (ttl_in ttl) }
+pub fn ttl_rule(ttl: Option<u32>) -> bool
+    ensures { result ≡ if_some ttl_in ttl }
 {
-    if !has {
+    let Some(ttl) = ttl else {
         return true;
-    }
+    };
     if ttl < 1 {
         return false;
     }
@@ -26,12 +27,9 @@ pub fn ttl_rule(has: bool, ttl: u32) -> bool
 }
 
 #[tactic(auto, unfolding(crate::specs::Rules::fragment_in))]
-pub fn fragment_rule(has: bool, mid: u32, index: u16, total: u16) -> bool
-    ensures { result ≡ if_set has (fragment_in mid index total) }
+pub fn fragment_rule(mid: u32, index: u16, total: u16) -> bool
+    ensures { result ≡ fragment_in mid index total }
 {
-    if !has {
-        return true;
-    }
     if !id_rule(mid) {
         return false;
     }

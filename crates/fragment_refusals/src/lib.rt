@@ -1,69 +1,66 @@
-// Document 01, "Fragments": the numbers that refuse a call on the groups, in their order, by what the tests found; 0 where nothing refuses.
+// Document 01, "Fragments": what refuses a call on the groups, in its order, by what the tests found.
 #![tactic(auto)]
 
 ghost use Rattle.std.specs.Prelude.{◌≡◌};
-ghost use Rattle.fragment_refusals.specs.Order.{fragment_ranged, refuses_key, refuses_joining, refuses_collecting};
+ghost use Rattle.refusals.specs.Refusals.{refusal_in};
+ghost use Rattle.fragment_refusals.specs.Order.{fragment_ranged, number_in, refuses_key, refuses_joining, refuses_collecting};
+
+use refusals::Refusal;
 
 // Whether N, M and the length are in their ranges.
+#[tactic(auto, unfolding(crate::specs::Order::fragment_ranged))]
 pub fn in_range(number: usize, total: usize, len: usize) -> bool
     ensures { result ≡ fragment_ranged number total len }
 {
-    if total < 2 {
-        return false;
-    }
-    if total > 16 {
-        return false;
-    }
-    if number < 1 {
-        return false;
-    }
-    if number > total {
-        return false;
-    }
-    len <= groups::PLACE
+    (2..=16).contains(&total) && (1..=total).contains(&number) && len <= groups::PLACE
 }
 
-// The tests that every call on a key makes first: 40, 23, the number that refuses the key, 17.
-pub fn refuses_key(broken: bool, other_length: bool, named: u8, outside: bool) -> u8
-    ensures { result ≡ refuses_key broken other_length named outside }
+// The tests that every call on a key makes first: 40, 23, the refusal of the key, where there is one, 17.
+pub fn refuses_key(
+    broken: bool,
+    other_length: bool,
+    named: Option<Refusal>,
+    outside: bool,
+) -> Result<(), Refusal>
+    ensures { refusal_in result ≡ refuses_key broken other_length (number_in named) outside }
 {
     if broken {
-        return refusals::STATE_BROKEN;
+        return Err(Refusal::StateBroken);
     }
     if other_length {
-        return refusals::STORE_LENGTH;
+        return Err(Refusal::StoreLength);
     }
-    if named > 0 {
-        return named;
+    if let Some(r) = named {
+        return Err(r);
     }
     if outside {
-        return refusals::FRAGMENT_MALFORMED;
+        return Err(Refusal::FragmentMalformed);
     }
-    0
+    Ok(())
 }
 
 // A fragment for a group that is there: 18, then 19.
-pub fn refuses_joining(differs: bool, held: bool) -> u8
-    ensures { result ≡ refuses_joining differs held }
+pub fn refuses_joining(differs: bool, held: bool) -> Result<(), Refusal>
+    ensures { refusal_in result ≡ refuses_joining differs held }
 {
     if differs {
-        return refusals::OTHER_TOTAL;
+        return Err(Refusal::OtherTotal);
     }
     if held {
-        return refusals::FRAGMENT_HELD;
+        return Err(Refusal::FragmentHeld);
     }
-    0
+    Ok(())
 }
 
 // A group that is collected: 21, then 5.
-pub fn refuses_collecting(incomplete: bool, short: bool) -> u8
-    ensures { result ≡ refuses_collecting incomplete short }
+pub fn refuses_collecting(incomplete: bool, short: bool) -> Result<(), Refusal>
+    ensures { refusal_in result ≡ refuses_collecting incomplete short }
 {
     if incomplete {
-        return refusals::NOT_COMPLETE;
+        return Err(Refusal::NotComplete);
     }
     if short {
-        return refusals::BUFFER_TOO_SHORT;
+        return Err(Refusal::BufferTooShort);
     }
-    0
+    Ok(())
 }

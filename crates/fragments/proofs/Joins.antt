@@ -1,11 +1,13 @@
 -- The fragments' bytes, joined: how long they are together, and how a loop that copies them one by one comes to the whole.
 use Rattle.std.specs.Prelude.{if◌then◌else◌}
 use mathlib.Core.Path.{◌≡◌, refl, sym, ap, ◌∙◌}
-use Prim.Native.Nat.{ℕ, zero, suc, ◌+◌, ◌*◌, ◌-◌, ◌≤◌, ◌<◌}
+use Prim.Native.Nat.{ℕ, zero, suc, ◌+◌, ◌*◌, ◌-◌, ◌≤◌, ◌<◌, min}
 use native.Mathlib.Omega.{arith}
 use mathlib.Core.Bool.{Bool, true, false}
 use mathlib.Core.List.{List, [], ◌∷◌, ◌++◌}
 use lib.ListN.{length, take, drop, get_or, length-append, length-take, length-drop}
+use Rattle.std.proofs.lemmas.List.{take_min}
+use Rattle.std.proofs.lemmas.List.Sums.{sum_by-cons}
 use borrow.Author.Tests.{eqb-true, leb-true, le-leb}
 use Rattle.octets.specs.Words.{◌and◌, every, ◌<?◌, ◌≤?◌, ◌=?◌}
 use Rattle.octets.specs.Bytes.{front, placed}
@@ -43,8 +45,20 @@ every_drop p zero l e = e
 every_drop p (suc n) [] e = refl
 every_drop p (suc n) (x ∷ l) e = every_drop p n l (and_right (p x) _ e)
 
-pub short-at : (total : ℕ) (l : List Piece) (i : ℕ) → keeps_pieces total 0 l ≡ true → i < length l → (get_or l i no_piece).len ≤ place
-short-at total l i e h = leb-true (get_or l i no_piece).len place (every-at short l i no_piece (all_short total 0 l e) h)
+-- the first fragments of a group that keeps its rules
+pub short_first : (x : Group) (n : ℕ) → keeps_pieces x.total 0 x.pieces ≡ true → every short (take n x.pieces) ≡ true
+short_first x n e = every_take short n x.pieces (all_short x.total 0 x.pieces e)
+
+pub short-at : (ps : List Piece) (i : ℕ) → every short ps ≡ true → i < length ps → (get_or ps i no_piece).len ≤ place
+short-at ps i e h = leb-true (get_or ps i no_piece).len place (every-at short ps i no_piece e h)
+
+-- the fragments 1 to M stand in the first places, as many as there are
+module _ (x : Group) (n : ℕ) (m : n ≡ min x.total 16) (l : length x.pieces ≡ 16) where
+  pub first-fragments : take n x.pieces ≡ fragments x
+  first-fragments = ap (λ (k : ℕ). take k x.pieces) (m ∙ ap (min x.total) (sym l)) ∙ take_min x.total x.pieces
+
+  pub first-few : length (take n x.pieces) ≤ 16
+  first-few = rw length-take (omega (arith, m))
 
 -- ---- how long the fragments are together
 
@@ -56,14 +70,13 @@ module _ (s : List ℕ) (g : ℕ) (h : g < 4) (k : length s ≡ store_size) wher
   length_from n [] i e = refl
   length_from n (p ∷ ps) i e =
       length-append (bytes_at s g n p) _
-      ∙ omega (arith, length-bytes n p (omega arith) (and_left (short p) _ e), length_from (n + 1) ps (omega arith) (and_right (short p) _ e))
+      ∙ omega (arith, sum_by-cons (λ (q : Piece). q.len) p ps, length-bytes n p (omega arith) (and_left (short p) _ e), length_from (n + 1) ps (omega arith) (and_right (short p) _ e))
 
   -- from the fragment n on
-  pub length_rest : (x : Group) (n : ℕ) → n ≤ 16 → length x.pieces ≡ 16 → keeps_pieces x.total 0 x.pieces ≡ true
-      → length (joined_from s g n (drop n (fragments x))) ≡ bytes_in (drop n (fragments x))
-  length_rest x n i l e =
-      let m : length (drop n (fragments x)) ≤ 16 - n = rw (length-drop, length-take) (omega arith) in
-      length_from n (drop n (fragments x)) (omega arith) (every_drop short n (fragments x) (every_take short x.total x.pieces (all_short x.total 0 x.pieces e)))
+  pub length_rest : (ps : List Piece) (n : ℕ) → n ≤ length ps → length ps ≤ 16 → every short ps ≡ true → length (joined_from s g n (drop n ps)) ≡ bytes_in (drop n ps)
+  length_rest ps n i l e =
+      let m : length (drop n ps) ≡ length ps - n = length-drop n ps in
+      length_from n (drop n ps) (omega arith) (every_drop short n ps e)
 
 -- ---- what is still to be written is placed behind what was
 

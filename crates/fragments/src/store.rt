@@ -11,18 +11,12 @@ pub(crate) fn join(x: Group, g: usize, store: &[u8], out: &mut [u8])
     requires { (g < 4) × (length store.now ≡ store_size) × (keeps_pieces x.total 0 x.pieces ≡ true) × (joined_length x ≤ length out.old) }
     ensures { out.new ≡ front (joined store.now g x) out.old }
 {
-    let total = x.total;
+    let n = x.total.min(16);
     let mut at: usize = 0;
-    let mut i: usize = 0;
-    while i < 16 {
-        if i >= total {
-            return;
-        }
-        let p = x.pieces[i];
-        let len = lengths::wide16(p.len);
+    for (i, p) in x.pieces[..n].iter().enumerate() {
+        let len = usize::from(p.len);
         let from = (16 * g + i) * groups::PLACE;
         octets::copy_at(&store[from..from + len], out, at);
         at += len;
-        i += 1;
     }
 }

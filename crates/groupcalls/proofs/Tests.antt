@@ -1,7 +1,7 @@
 -- What the tests of each call come to: the gate that add and collect share, the ranges of a fragment, the group that was found.
 use Rattle.std.specs.Prelude.{if◌then◌else◌}
 use mathlib.Core.Path.{◌≡◌, refl, sym, ap, ◌∙◌}
-use Prim.Native.Nat.{ℕ, ◌-◌, ◌≤◌, ◌<◌}
+use Prim.Native.Nat.{ℕ, ◌≤◌, ◌<◌}
 use native.Mathlib.Omega.{arith}
 use mathlib.Core.Bool.{Bool, true, false}
 use lib.ListN.{length}
@@ -11,15 +11,18 @@ use Rattle.octets.proofs.Tests.{if_yes, if_no, and_left, and_right, inside-low, 
 use Rattle.octets.proofs.Lists.{every-at}
 use Rattle.refusals.specs.Numbers.{state_broken, store_length, fragment_malformed}
 use Rattle.groupkeys.specs.declared.Key.{Key}
-use Rattle.groupkeys.specs.declared.Named.{Named}
+use Rattle.groupkeys.specs.Key.{key_in}
+use Rattle.std.specs.Prelude.{Option, Result, Ok, position}
+use Rattle.refusals.specs.declared.Refusal.{Refusal}
+use Rattle.refusals.specs.Refusals.{number_of, refusal_in}
+use Rattle.refusals.proofs.Told.{not-0}
 use Rattle.groups.specs.declared.Group.{Group}
 use Rattle.groups.specs.declared.Groups.{Groups}
-use Rattle.groups.specs.declared.Found.{Found}
-use Rattle.groups.specs.Groups.{place, store_size, free_group, is_free, has_key, complete, joined_length, keeps_pieces, keeps_group, keeps_groups, distinct, first, past_group, group_at, with_group}
-use Rattle.fragment_refusals.specs.Order.{fragment_ranged, refuses_collecting}
+use Rattle.groups.specs.Groups.{place, store_size, has_key, keeps_pieces, keeps_group, keeps_groups, distinct, past_group, group_at}
+use Rattle.fragment_refusals.specs.Order.{fragment_ranged}
 use Rattle.groupcalls.specs.declared.Fragment.{Fragment}
-use Rattle.groupcalls.specs.Answer.{collected, Outcome, refuse}
-use Rattle.groupcalls.specs.Calls.{unless, gate, in_range, add_to, add_in, add_new, add_by, add, collect_by, collect}
+use Rattle.groupcalls.specs.Answer.{refuse}
+use Rattle.groupcalls.specs.Calls.{gate, in_range, add_by, add, collect_by, collect}
 
 -- ---- a fragment in its ranges
 
@@ -72,27 +75,31 @@ group-kept t k g h = every-at keeps_group t.items g past_group k.each (omega (ar
 
 -- ---- the gate
 
-pub record Passed (t : Groups) (size : ℕ) (named : Named) (r : Bool) : Type 0 where
+-- a refusal has a number above 0
+pub above-0 : (r : Refusal) → 0 < number_of r
+above-0 r = omega (arith, not-0 r)
+
+pub record Passed (t : Groups) (size : ℕ) (named : Result Key Refusal) (r : Bool) : Type 0 where
   pub keeps : keeps_groups t ≡ true
   pub sized : size ≡ store_size
-  pub known : named.refusal ≡ 0
+  pub known : refusal_in named ≡ 0
   pub inside : r ≡ true
 
-pub passed : (t : Groups) (size : ℕ) (named : Named) (r : Bool) → gate t size named r ≡ 0 → Passed t size named r
+pub passed : (t : Groups) (size : ℕ) (named : Result Key Refusal) (r : Bool) → gate t size named r ≡ 0 → Passed t size named r
 unfolding gate
-passed t size named r e = go (keeps_groups t) (size =? store_size) (0 <? named.refusal) r refl refl refl refl e
+passed t size named r e = go (keeps_groups t) (size =? store_size) (0 <? refusal_in named) r refl refl refl refl e
   where
-    go : (a b c d : Bool) → keeps_groups t ≡ a → (size =? store_size) ≡ b → (0 <? named.refusal) ≡ c → r ≡ d
-        → (if no a then state_broken else if no b then store_length else if c then named.refusal else if no d then fragment_malformed else 0) ≡ 0 → Passed t size named r
+    go : (a b c d : Bool) → keeps_groups t ≡ a → (size =? store_size) ≡ b → (0 <? refusal_in named) ≡ c → r ≡ d
+        → (if no a then state_broken else if no b then store_length else if c then refusal_in named else if no d then fragment_malformed else 0) ≡ 0 → Passed t size named r
     go false b c d p q s u z = absurd (omega arith)
     go true false c d p q s u z = absurd (omega arith)
-    go true true true d p q s u z = absurd (omega (arith, ltb-true 0 named.refusal s))
+    go true true true d p q s u z = absurd (omega (arith, ltb-true 0 (refusal_in named) s))
     go true true false false p q s u z = absurd (omega arith)
-    go true true false true p q s u z = record { keeps = p; sized = eqb-true size store_size q; known = omega (arith, ltb-false 0 named.refusal s); inside = u }
+    go true true false true p q s u z = record { keeps = p; sized = eqb-true size store_size q; known = omega (arith, ltb-false 0 (refusal_in named) s); inside = u }
 
 -- ---- add, from what the code found
 
-module _ (t : Groups) (size : ℕ) (named : Named) (f : Fragment) (r : Bool) (n : ℕ) (q : r ≡ in_range f) (e : n ≡ gate t size named r) where
+module _ (t : Groups) (size : ℕ) (named : Result Key Refusal) (f : Fragment) (r : Bool) (n : ℕ) (q : r ≡ in_range f) (e : n ≡ gate t size named r) where
   from-gate : n ≡ gate t size named (in_range f)
   from-gate = e ∙ ap (gate t size named) q
 
@@ -102,57 +109,30 @@ module _ (t : Groups) (size : ℕ) (named : Named) (f : Fragment) (r : Bool) (n 
       let z : 0 < gate t size named (in_range f) = omega (arith, from-gate) in
       ap (λ (m : ℕ). refuse m t) from-gate ∙ sym (if_yes _ _ _ (lt-ltb _ _ z))
 
-  pub add-passed : n ≤ 0 → (x : Found) → x ≡ first (has_key named.key) 0 t.items → add_by t named.key f x ≡ add t size named f
+  pub add-passed : n ≤ 0 → (k : Key) → named ≡ Ok k → (x : Option ℕ) → x ≡ position (has_key k) t.items → add_by t k f x ≡ add t size named f
   unfolding add
-  add-passed h x p =
+  add-passed h k o x p =
       let z : gate t size named (in_range f) ≤ 0 = omega (arith, from-gate) in
-      ap (add_by t named.key f) p ∙ sym (if_no _ _ _ (le-ltb _ _ z))
+      ap (add_by t k f) p
+      ∙ ap (λ (m : Result Key Refusal). add_by t (key_in m) f (position (has_key (key_in m)) t.items)) (sym o)
+      ∙ sym (if_no _ _ _ (le-ltb _ _ z))
 
   pub add-ranged : n ≤ 0 → in_range f ≡ true
   add-ranged h = sym q ∙ (passed t size named r (omega (arith, e))).inside
 
-pub add-named : (t : Groups) (size : ℕ) (m n : Named) (f : Fragment) → m ≡ n → add t size m f ≡ add t size n f
-add-named t size m n f e = ap (λ (x : Named). add t size x f) e
-
--- a new group, from the free one that it takes
-pub new-at : (t : Groups) (k : Key) (f : Fragment) (g : ℕ) (x : Group) → x ≡ free_group → Found.At g ≡ first is_free 0 t.items
-    → add_to t g (record { is_open = true; key = k; total = f.total; began = f.time; pieces = x.pieces }) f ≡ add_new t k f
-new-at t k f g x e q =
-    ap {B = Outcome} (λ (y : Group). add_to t g (record { is_open = true; key = k; total = f.total; began = f.time; pieces = y.pieces }) f) e ∙ ap (add_in t k f) q
-
 -- ---- collect, from what the code found
 
-module _ (t : Groups) (size : ℕ) (named : Named) (room n : ℕ) (e : n ≡ gate t size named true) where
+module _ (t : Groups) (size : ℕ) (named : Result Key Refusal) (room n : ℕ) (e : n ≡ gate t size named true) where
   pub collect-refused : 0 < n → refuse n t ≡ collect t size named room
   unfolding collect
   collect-refused h =
       let z : 0 < gate t size named true = omega (arith, e) in
       ap (λ (m : ℕ). refuse m t) e ∙ sym (if_yes _ _ _ (lt-ltb _ _ z))
 
-  pub collect-passed : n ≤ 0 → (x : Found) → x ≡ first (has_key named.key) 0 t.items → collect_by t room x ≡ collect t size named room
+  pub collect-passed : n ≤ 0 → (k : Key) → named ≡ Ok k → (x : Option ℕ) → x ≡ position (has_key k) t.items → collect_by t room x ≡ collect t size named room
   unfolding collect
-  collect-passed h x p =
+  collect-passed h k o x p =
       let z : gate t size named true ≤ 0 = omega (arith, e) in
-      ap (collect_by t room) p ∙ sym (if_no _ _ _ (le-ltb _ _ z))
-
-pub collect-named : (t : Groups) (size : ℕ) (m n : Named) (room : ℕ) → m ≡ n → collect t size m room ≡ collect t size n room
-collect-named t size m n room e = ap (λ (x : Named). collect t size x room) e
-
--- ---- a call that is refused with a number, or not at all
-
-module _ (n m : ℕ) (t : Groups) (o : Outcome) (e : n ≡ m) where
-  pub is-refused : 0 < n → refuse n t ≡ unless m t o
-  is-refused h = ap (λ (k : ℕ). refuse k t) e ∙ sym (if_yes _ _ _ (lt-ltb 0 m (omega arith)))
-
-  pub is_made : n ≤ 0 → o ≡ unless m t o
-  is_made h = sym (if_no _ _ _ (le-ltb 0 m (omega arith)))
-
--- the tests of a collect, from what the code found
-pub collecting : (x : Group) (b : Bool) (n room : ℕ) → b ≡ complete x → n ≡ joined_length x
-    → refuses_collecting (no b) (room <? n) ≡ refuses_collecting (no (complete x)) (room <? joined_length x)
-collecting x b n room p q = ap (λ (c : Bool). refuses_collecting (no c) (room <? n)) p ∙ ap (λ (j : ℕ). refuses_collecting (no (complete x)) (room <? j)) q
-
--- the group of an accepted collect is freed
-pub freed-at : (t : Groups) (g n : ℕ) (x : Group) → n ≡ joined_length (group_at t g) → x ≡ free_group
-    → ◌≡◌ {A = Outcome} (record { answer = collected g n; after = with_group t g x }) (record { answer = collected g (joined_length (group_at t g)); after = with_group t g free_group })
-freed-at t g n x e q = let z = ap (with_group t g) q in λ i. record { answer = collected g (e i); after = z i }
+      ap (collect_by t room) p
+      ∙ ap (λ (m : Result Key Refusal). collect_by t room (position (has_key (key_in m)) t.items)) (sym o)
+      ∙ sym (if_no _ _ _ (le-ltb _ _ z))

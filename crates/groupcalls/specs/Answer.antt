@@ -1,7 +1,9 @@
--- What the calls answer, in document 01's words: the paper's number and values for each case of the answer enums.
-use Rattle.std.specs.Prelude.{ℕ}
+-- What the calls answer, in document 01's words: the paper's number and values for each case of an answer.
+use Rattle.std.specs.Prelude.{ℕ, Result, Ok, Err}
+use Rattle.refusals.specs.declared.Refusal.{Refusal}
+use Rattle.refusals.specs.Refusals.{number_of}
 use Rattle.groups.specs.declared.Groups.{Groups}
-use Rattle.groupcalls.specs.declared.Answer.{Answer}
+use Rattle.groupcalls.specs.declared.Collected.{Collected}
 use Rattle.groupcalls.specs.declared.Served.{Served}
 use Rattle.groupcalls.specs.declared.Standing.{Standing}
 
@@ -18,18 +20,32 @@ pub record Outcome : Type 0 where
   pub answer : Said
   pub after : Groups
 
-abbrev pub saying : Answer → Said
-saying (Answer.Added g) = added g
-saying (Answer.Collected g n) = collected g n
-saying Answer.Swept = swept
-saying (Answer.Refused n) = refused n
+-- a group that was collected; a sweep that was made
+abbrev pub gathered : Collected → Said
+gathered c = collected c.group c.len
 
-abbrev pub says : Served → Outcome
-says r = record { answer = saying r.answer; after = r.groups }
+abbrev pub done : Unit {0} → Said
+done x = swept
+
+-- `f` says what an accepted call answers
+abbrev pub saying : {A : Type 0} → (A → Said) → Result A Refusal → Said
+saying f (Ok x) = f x
+saying f (Err r) = refused (number_of r)
+
+abbrev pub says : {A : Type 0} → (A → Said) → Served A → Outcome
+says f r = record { answer = saying f r.answer; after = r.groups }
 
 -- a refusal: its number, and the groups as they came
 abbrev pub refuse : ℕ → Groups → Outcome
 refuse n t = record { answer = refused n; after = t }
+
+-- the answer of a call on the groups t: what was made of them, with the groups after it, or a refusal
+abbrev pub served : {A : Type 0} → Groups → Result (A × Groups) Refusal → Served A
+served t (Ok p) = record { answer = Ok p.0; groups = p.1 }
+served t (Err r) = record { answer = Err r; groups = t }
+
+abbrev pub told : {A : Type 0} → (A → Said) → Groups → Result (A × Groups) Refusal → Outcome
+told f t m = says f (served t m)
 
 -- whether a group is complete, or the number of a refusal
 pub data Stand : Type 0 where
@@ -37,7 +53,7 @@ pub data Stand : Type 0 where
   is_incomplete : Stand
   unseen : (number : ℕ) → Stand
 
-abbrev pub standing_says : Standing → Stand
-standing_says Standing.Complete = is_complete
-standing_says Standing.Incomplete = is_incomplete
-standing_says (Standing.Refused n) = unseen n
+abbrev pub standing_says : Result Standing Refusal → Stand
+standing_says (Ok Standing.Complete) = is_complete
+standing_says (Ok Standing.Incomplete) = is_incomplete
+standing_says (Err r) = unseen (number_of r)

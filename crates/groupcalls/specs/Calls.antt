@@ -1,14 +1,15 @@
 -- Document 01, "Fragments": the calls on the groups, with the refusals in the order of the paper's table, 40 first, then 23, and 5 last.
-use Rattle.std.specs.Prelude.{ℕ, ◌-◌, Bool, true, get_or, set, replicate, if◌then◌else◌}
+use Rattle.std.specs.Prelude.{ℕ, ◌-◌, Bool, true, get_or, set, replicate, Option, Some, None, Result, position, if◌then◌else◌}
 use Rattle.octets.specs.Words.{no, ◌<?◌, ◌=?◌}
 use Rattle.refusals.specs.Numbers.{state_broken, no_free_group, not_complete}
+use Rattle.refusals.specs.declared.Refusal.{Refusal}
+use Rattle.refusals.specs.Refusals.{refusal_in}
 use Rattle.fragment_refusals.specs.Order.{fragment_ranged, refuses_key, refuses_joining, refuses_collecting}
 use Rattle.groupkeys.specs.declared.Key.{Key}
-use Rattle.groupkeys.specs.declared.Named.{Named}
+use Rattle.groupkeys.specs.Key.{key_in}
 use Rattle.groups.specs.declared.Group.{Group}
 use Rattle.groups.specs.declared.Groups.{Groups}
-use Rattle.groups.specs.declared.Found.{Found}
-use Rattle.groups.specs.Groups.{store_size, no_piece, free_group, is_free, has_key, complete, joined_length, keeps_groups, first, group_at, with_group}
+use Rattle.groups.specs.Groups.{store_size, no_piece, free_group, is_free, has_key, complete, joined_length, keeps_groups, group_at, with_group}
 use Rattle.groupsweep.specs.Sweep.{swept_all, stands_complete}
 unfoldable pub use Rattle.groupsweep.specs.Sweep.{swept_group}
 use Rattle.groupcalls.specs.declared.Fragment.{Fragment}
@@ -19,8 +20,8 @@ abbrev pub unless : ℕ → Groups → Outcome → Outcome
 unless n t o = if 0 <? n then refuse n t else o
 
 -- the tests that add and collect make first: 40, then 23, then 8 and 17 for the key (which `named_of` gives), then 17 for N, M and the length
-unfoldable pub gate : Groups → ℕ → Named → Bool → ℕ
-gate t size named ranged = refuses_key (no (keeps_groups t)) (no (size =? store_size)) named.refusal (no ranged)
+unfoldable pub gate : Groups → ℕ → Result Key Refusal → Bool → ℕ
+gate t size named ranged = refuses_key (no (keeps_groups t)) (no (size =? store_size)) (refusal_in named) (no ranged)
 
 -- ---- add
 
@@ -44,19 +45,19 @@ abbrev pub new_group : Key → Fragment → Group
 new_group k f = record { is_open = true; key = k; total = f.total; began = f.time; pieces = replicate 16 no_piece }
 
 -- a new group takes the lowest free one, if there is one (20)
-abbrev pub add_in : Groups → Key → Fragment → Found → Outcome
-add_in t k f (Found.At g) = add_to t g (new_group k f) f
-add_in t k f Found.Nothing = refuse no_free_group t
+abbrev pub add_in : Groups → Key → Fragment → Option ℕ → Outcome
+add_in t k f (Some g) = add_to t g (new_group k f) f
+add_in t k f None = refuse no_free_group t
 
 abbrev pub add_new : Groups → Key → Fragment → Outcome
-add_new t k f = add_in t k f (first is_free 0 t.items)
+add_new t k f = add_in t k f (position is_free t.items)
 
-abbrev pub add_by : Groups → Key → Fragment → Found → Outcome
-add_by t k f (Found.At g) = add_at t g f
-add_by t k f Found.Nothing = add_new t k f
+abbrev pub add_by : Groups → Key → Fragment → Option ℕ → Outcome
+add_by t k f (Some g) = add_at t g f
+add_by t k f None = add_new t k f
 
-unfoldable pub add : Groups → ℕ → Named → Fragment → Outcome
-add t size named f = unless (gate t size named (in_range f)) t (add_by t named.key f (first (has_key named.key) 0 t.items))
+unfoldable pub add : Groups → ℕ → Result Key Refusal → Fragment → Outcome
+add t size named f = unless (gate t size named (in_range f)) t (add_by t (key_in named) f (position (has_key (key_in named)) t.items))
 
 -- ---- collect
 
@@ -67,12 +68,12 @@ collect_at t g room =
     (record { answer = collected g (joined_length (group_at t g)); after = with_group t g free_group })
 
 -- an unknown key is 21
-abbrev pub collect_by : Groups → ℕ → Found → Outcome
-collect_by t room (Found.At g) = collect_at t g room
-collect_by t room Found.Nothing = refuse not_complete t
+abbrev pub collect_by : Groups → ℕ → Option ℕ → Outcome
+collect_by t room (Some g) = collect_at t g room
+collect_by t room None = refuse not_complete t
 
-unfoldable pub collect : Groups → ℕ → Named → ℕ → Outcome
-collect t size named room = unless (gate t size named true) t (collect_by t room (first (has_key named.key) 0 t.items))
+unfoldable pub collect : Groups → ℕ → Result Key Refusal → ℕ → Outcome
+collect t size named room = unless (gate t size named true) t (collect_by t room (position (has_key (key_in named)) t.items))
 
 -- ---- sweep
 

@@ -6,7 +6,7 @@ use mathlib.Core.Bool.{Bool, true, false}
 use mathlib.Core.List.{List}
 use borrow.Author.Tests.{eq-eqb, eqb-true}
 use Rattle.octets.specs.Words.{◌and◌, no, ◌=?◌}
-use Rattle.octets.proofs.Tests.{and_left, and_right, and_both, and-next, and-not-left, if_yes, if_no, true-not-false}
+use Rattle.octets.proofs.Tests.{and_left, and_right, and_both, true-not-false}
 use Rattle.callsigns.specs.Callsign.{same_call}
 use Rattle.callsigns.proofs.SameCall.{same_call-refl, same_call-sym, same_call-trans}
 use Rattle.groupkeys.specs.declared.Key.{Key}
@@ -55,17 +55,3 @@ unfolding same_key
 same_key-trans i j k e f =
     and_both _ _ (eq-eqb _ _ (masters i j e ∙ masters j k f))
     (both-trans i.has_originator j.has_originator k.has_originator (originator_of i) (originator_of j) (originator_of k) (origins i j e) (origins j k f))
-
--- ---- what the code's tests of two keys of one master id come to
-module _ (j k : Key) (m : j.master ≡ k.master) where
-  pub by-absent : j.has_originator ≡ false → no k.has_originator ≡ same_key j k
-  unfolding same_key
-  by-absent a = sym (and-next _ _ (eq-eqb _ _ m) ∙ if_no _ _ _ a)
-
-  pub by_one : j.has_originator ≡ true → k.has_originator ≡ false → false ≡ same_key j k
-  unfolding same_key
-  by_one a b = sym (and-next _ _ (eq-eqb _ _ m) ∙ if_yes _ _ _ a ∙ and-not-left _ _ b)
-
-  pub by-calls : j.has_originator ≡ true → k.has_originator ≡ true → (s t : List ℕ) → s ≡ originator_of j → t ≡ originator_of k → same_call s t ≡ same_key j k
-  unfolding same_key
-  by-calls a b s t p q = rw (p, q) (sym (and-next _ _ (eq-eqb _ _ m) ∙ if_yes _ _ _ a ∙ and-next _ _ b))

@@ -2,25 +2,21 @@
 // A key of the names that a call is given, its equality, and the rules that it keeps.
 #![tactic(auto)]
 
-ghost use Rattle.std.specs.Prelude.{◌≡◌};
+ghost use Rattle.std.specs.Prelude.{◌≡◌, option_map};
 ghost use Rattle.groupkeys.specs.Key.{same_key, keeps_key, no_key, named_of};
 
 mod parts;
 
+use refusals::Refusal;
+
 // A group's key: its originator, which may be absent, and its master id. The originator stands in the front of its array; the bytes past it are zero.
+// A flag and not an Option: a host hands keys in, and keeps_key (40) speaks of the bytes of an absent originator and of those past a present one.
 #[derive(Clone, Copy)]
 pub struct Key {
     pub has_originator: bool,
     pub originator: [u8; 12],
     pub originator_len: usize,
     pub master: u32,
-}
-
-// A key, or the number of a refusal, which is 0 where there is a key.
-#[derive(Clone, Copy)]
-pub struct Named {
-    pub refusal: u8,
-    pub key: Key,
 }
 
 // No group's key: all zero.
@@ -35,14 +31,18 @@ pub fn no_key() -> Key
     }
 }
 
-// The key of the originator, where there is one, and the master id that a call is given.
-pub fn name(has_originator: bool, originator: &[u8], master: u32) -> Named
-    ensures { result ≡ named_of has_originator originator.now master }
+// The key of the originator, where there is one, and the master id that a call is given: 8, then 17.
+#[tactic(auto, unfolding(crate::specs::Key::named_of))]
+pub fn name(originator: Option<&[u8]>, master: u32) -> Result<Key, Refusal>
+    ensures { result ≡ named_of (option_map (λ s. s.now) originator.entry) master }
 {
-    if has_originator {
-        return parts::present(originator, master);
+    if !parts::is_originator(originator) {
+        return Err(Refusal::NoCallsign);
     }
-    parts::absent(master)
+    if !field_rules::id_rule(master) {
+        return Err(Refusal::FragmentMalformed);
+    }
+    Ok(parts::key_of(originator, master))
 }
 
 // Whether two keys are equal.
@@ -53,36 +53,26 @@ pub fn same(a: Key, b: Key) -> bool
     if a.master != b.master {
         return false;
     }
-    if a.has_originator {
-        if !b.has_originator {
-            return false;
-        }
-        let n = a.originator_len;
-        let m = b.originator_len;
-        return callsigns::same_call(
+    if !a.has_originator {
+        return !b.has_originator;
+    }
+    let n = a.originator_len;
+    let m = b.originator_len;
+    b.has_originator
+        && callsigns::same_call(
             lengths::part(&a.originator, n),
             lengths::part(&b.originator, m),
-        );
-    }
-    if b.has_originator {
-        return false;
-    }
-    true
+        )
 }
 
 // Whether a key keeps its rules (40).
+#[tactic(auto, unfolding(crate::specs::Key::keeps_key))]
 pub fn keeps(k: Key) -> bool
     ensures { result ≡ keeps_key k }
 {
     let n = k.originator_len;
-    if n > 12 {
-        return false;
-    }
-    if !parts::is_originator(k.has_originator, lengths::part(&k.originator, n)) {
-        return false;
-    }
-    if !lengths::zero_from(&k.originator, n) {
-        return false;
-    }
-    field_rules::id_rule(k.master)
+    n <= 12
+        && parts::keeps_originator(k.has_originator, lengths::part(&k.originator, n))
+        && lengths::zero_from(&k.originator, n)
+        && field_rules::id_rule(k.master)
 }

@@ -1,76 +1,43 @@
 // The parts of a group's key.
-ghost use Rattle.std.specs.Prelude.{◌≡◌, true, false, [], ◌≤◌, length};
-ghost use Rattle.groupkeys.specs.Key.{is_originator, key_of, no_key, named_of};
+ghost use Rattle.std.specs.Prelude.{◌≡◌, true, option_map};
+ghost use Rattle.groupkeys.specs.Key.{keeps_originator, is_originator, key_of};
 
-use crate::{Key, Named};
+use crate::Key;
 
-// A refusal of the names that a call is given.
-fn unnamed(n: u8) -> Named
-    ensures { result ≡ record { refusal = n; key = no_key } }
+// The key of an originator that is a callsign, or of none.
+pub(crate) fn key_of(originator: Option<&[u8]>, master: u32) -> Key
+    requires { is_originator (option_map (λ s. s.now) originator) ≡ true }
+    ensures { result ≡ key_of (option_map (λ s. s.now) originator.entry) master }
 {
-    let key = crate::no_key();
-    Named {
-        refusal: n,
-        key: key,
-    }
-}
-
-fn key_of(originator: &[u8], master: u32) -> Key
-    requires { length originator.now ≤ 12 }
-    ensures { result ≡ key_of true originator.now master }
-{
-    let mut a = [0u8; 12];
-    octets::copy_at(originator, &mut a, 0);
+    let Some(s) = originator else {
+        return Key {
+            master,
+            ..crate::no_key()
+        };
+    };
+    let mut front = [0u8; 12];
+    front[..s.len()].copy_from_slice(s);
     Key {
         has_originator: true,
-        originator: a,
-        originator_len: originator.len(),
-        master: master,
+        originator: front,
+        originator_len: s.len(),
+        master,
     }
 }
 
-// The key with an originator: 8, then 17.
-pub(crate) fn present(originator: &[u8], master: u32) -> Named
-    ensures { result ≡ named_of true originator.now master }
+// Whether an originator, where there is one, is a callsign.
+pub(crate) fn is_originator(originator: Option<&[u8]>) -> bool
+    ensures { result ≡ is_originator (option_map (λ s. s.now) originator.entry) }
 {
-    if !callsigns::is_callsign(originator) {
-        return unnamed(refusals::NO_CALLSIGN);
-    }
-    if !field_rules::id_rule(master) {
-        return unnamed(refusals::FRAGMENT_MALFORMED);
-    }
-    let key = key_of(originator, master);
-    Named {
-        refusal: 0,
-        key: key,
-    }
+    originator.is_none_or(callsigns::is_callsign)
 }
 
-// The key without an originator: 17.
-pub(crate) fn absent(master: u32) -> Named
-    ensures { result ≡ named_of false [] master }
-{
-    if !field_rules::id_rule(master) {
-        return unnamed(refusals::FRAGMENT_MALFORMED);
-    }
-    let key = Key {
-        has_originator: false,
-        originator: [0u8; 12],
-        originator_len: 0,
-        master: master,
-    };
-    Named {
-        refusal: 0,
-        key: key,
-    }
-}
-
-// Whether a text is an originator, or an absent one's.
-pub(crate) fn is_originator(has: bool, s: &[u8]) -> bool
-    ensures { result ≡ is_originator has s.now }
+// Whether a text is a key's originator, or an absent one's.
+pub(crate) fn keeps_originator(has: bool, s: &[u8]) -> bool
+    ensures { result ≡ keeps_originator has s.now }
 {
     if has {
         return callsigns::is_callsign(s);
     }
-    s.len() == 0
+    s.is_empty()
 }

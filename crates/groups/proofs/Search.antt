@@ -1,19 +1,19 @@
--- Searches in the groups and in a group's fragments: what a turn of each loop comes to, and where what was found stands.
-use Rattle.std.specs.Prelude.{if◌then◌else◌}
-use mathlib.Core.Path.{◌≡◌, sym, ◌∙◌}
-use Prim.Native.Nat.{ℕ, suc, ◌+◌, ◌≤◌, ◌<◌, min}
+-- What a turn of a loop over the groups comes to, and where what was found stands.
+use mathlib.Core.Path.{◌≡◌, refl, sym, ◌∙◌}
+use borrow.Author.Tests.{ltb-false}
+use Prim.Native.Nat.{ℕ, suc, ◌+◌, ◌≤◌, ◌<◌}
 use native.Mathlib.Omega.{arith}
 use mathlib.Core.Bool.{Bool, true, false}
+use Rattle.std.specs.Prelude.{Option, Some, None, position, cond, ltb, ◌||◌, not}
+use Rattle.std.specs.List.{position_or_len}
+use Rattle.std.proofs.lemmas.List.Quantifiers.{position-Some}
+use Rattle.octets.specs.Words.{some}
 use mathlib.Core.List.{List, [], ◌∷◌, map}
-use lib.ListN.{length, get_or, take, drop, length-map, length-take, drop_of_length-le}
-use lib.Seq.{get_or-take}
-use Rattle.octets.specs.Words.{◌and◌}
+use lib.ListN.{length, get_or, drop, length-map, drop_of_length-le}
 use Rattle.octets.proofs.Tests.{and-not-left, and-next, no_true, no_false}
 use Rattle.octets.proofs.Lists.{drop-next}
-use Rattle.groups.specs.declared.Piece.{Piece}
 use Rattle.groups.specs.declared.Group.{Group}
-use Rattle.groups.specs.declared.Found.{Found}
-use Rattle.groups.specs.Groups.{no_piece, keeps_piece, keeps_pieces, twice, distinct, first}
+use Rattle.groups.specs.Groups.{twice, distinct, past_group}
 
 -- what owning a value tells of an array of structs in it
 pub unmapped : (X Y : Type 0) (f : X → Y) (l : List X) (n : ℕ) → length (map f l) ≡ n → length l ≡ n
@@ -26,46 +26,31 @@ past l i h = drop_of_length-le l {i = i} h
 -- ---- a turn of a loop over the groups
 
 module _ (l : List Group) (i : ℕ) (d : Group) (h : i < length l) where
-  module _ (p : Group → Bool) where
-    pub first-here : p (get_or l i d) ≡ true → first p i (drop i l) ≡ Found.At i
-    first-here e = rw (drop-next l i d h, e)
-
-    pub first_next : p (get_or l i d) ≡ false → first p i (drop i l) ≡ first p (i + 1) (drop (i + 1) l)
-    first_next e = rw (drop-next l i d h, e)
-
   pub distinct-not : twice (get_or l i d) (drop (i + 1) l) ≡ true → distinct (drop i l) ≡ false
   distinct-not e = rw (drop-next l i d h) (and-not-left _ _ (no_true _ e))
 
   pub distinct-next : twice (get_or l i d) (drop (i + 1) l) ≡ false → distinct (drop i l) ≡ distinct (drop (i + 1) l)
   distinct-next e = rw (drop-next l i d h) (and-next _ _ (no_false _ e))
 
--- ---- a turn of a loop over a group's places
-
-module _ (total : ℕ) (l : List Piece) (i : ℕ) (h : i < length l) where
-  pub pieces-not : keeps_piece total i (get_or l i no_piece) ≡ false → keeps_pieces total i (drop i l) ≡ false
-  pieces-not e = rw (drop-next l i no_piece h) (and-not-left _ _ e)
-
-  pub pieces-next : keeps_piece total i (get_or l i no_piece) ≡ true → keeps_pieces total i (drop i l) ≡ keeps_pieces total (i + 1) (drop (i + 1) l)
-  pieces-next e = rw (drop-next l i no_piece h) (and-next _ _ e)
-
--- ---- a turn of a loop over the fragments 1 to M
-
-pub fragments-end : (total : ℕ) (l : List Piece) (i : ℕ) → min total (length l) ≤ i → drop i (take total l) ≡ []
-fragments-end total l i h = past (take total l) i (rw length-take h)
-
-module _ (total : ℕ) (l : List Piece) (i : ℕ) (h : i < length l) (k : i < total) where
-  pub fragments-next : drop i (take total l) ≡ get_or l i no_piece ∷ drop (i + 1) (take total l)
-  fragments-next = drop-next (take total l) i no_piece (rw length-take (omega arith)) ∙ rw (get_or-take total l i no_piece k)
-
 -- ---- what was found
 
-pub found_nothing : {A : Type 0} (i : ℕ) → Found.At i ≡ Found.Nothing → A
-found_nothing i e = let z : ◌≡◌ {A = ℕ} 0 1 = cc in absurd (omega arith)
+pub found-bound : (p : Group → Bool) (i : ℕ) (l : List Group) → Some i ≡ position p l → i < length l
+found-bound p i l e = (position-Some p l i past_group (sym e)).0
 
-pub first-bound : (p : Group → Bool) (n i : ℕ) (l : List Group) → Found.At i ≡ first p n l → i < n + length l
-first-bound p n i [] e = found_nothing i e
-first-bound p n i (x ∷ l) e = go (p x) e (first-bound p (n + 1) i l)
+pub found-at : (p : Group → Bool) (i : ℕ) (l : List Group) → Some i ≡ position p l → p (get_or l i past_group) ≡ true
+found-at p i l e = (position-Some p l i past_group (sym e)).1
+
+past-all : (p : Group → Bool) (l : List Group) → length l ≤ position_or_len p l → some p l ≡ false
+past-all p [] h = refl
+past-all p (x ∷ l) h = go (p x) (past-all p l) h
   where
-    go : (b : Bool) → Found.At i ≡ (if b then Found.At n else first p (n + 1) l) → (Found.At i ≡ first p (n + 1) l → i < n + 1 + length l) → i < n + suc (length l)
-    go true q r = let z : i ≡ n = cc in omega arith
-    go false q r = omega (arith, r q)
+    go : (b : Bool) → (length l ≤ position_or_len p l → some p l ≡ false) → suc (length l) ≤ cond (not b) (1 + position_or_len p l) 0 → (b || some p l) ≡ false
+    go true r k = absurd (omega (arith, k))
+    go false r k = r (omega (arith, k))
+
+pub found-none : (p : Group → Bool) (l : List Group) → None ≡ position p l → some p l ≡ false
+found-none p l e = go (ltb (position_or_len p l) (length l)) refl e
+  where
+    go : (b : Bool) → ltb (position_or_len p l) (length l) ≡ b → ◌≡◌ {A = Option ℕ} None (cond b (Some (position_or_len p l)) None) → some p l ≡ false
+    go true q k = let z : ◌≡◌ {A = ℕ} 0 1 = cc in absurd (omega arith)
+    go false q k = past-all p l (ltb-false (position_or_len p l) (length l) q)

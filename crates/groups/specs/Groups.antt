@@ -1,11 +1,11 @@
--- Document 01, "Fragments": "4 groups, 16 places of 1,024 bytes each". What a group is, the rules that the groups keep (40), and the searches in them.
-use Rattle.std.specs.Prelude.{ℕ, ◌+◌, ◌*◌, Bool, true, false, List, [], ◌∷◌, length, take, replicate, get_or, set, if◌then◌else◌}
+-- Document 01, "Fragments": "4 groups, 16 places of 1,024 bytes each". What a group is, the rules that the groups keep (40), and their places.
+use Rattle.std.specs.Prelude.{ℕ, ◌*◌, Bool, true, false, List, [], ◌∷◌, length, take, replicate, get_or, set, sum_by, if◌then◌else◌}
+use Rattle.std.specs.List.{enumerate_from}
 use Rattle.octets.specs.Words.{◌and◌, no, every, some, between, ◌<?◌, ◌≤?◌, ◌=?◌}
 use Rattle.groupkeys.specs.declared.Key.{Key}
 use Rattle.groups.specs.declared.Piece.{Piece}
 use Rattle.groups.specs.declared.Group.{Group}
 use Rattle.groups.specs.declared.Groups.{Groups}
-use Rattle.groups.specs.declared.Found.{Found}
 use Rattle.groupkeys.specs.Key.{same_key, keeps_key, no_key}
 
 -- THE SIZE of a place, and of the store: 4 groups of 16 places
@@ -43,8 +43,7 @@ complete x = every is_held (fragments x)
 
 -- how many bytes fragments have together
 abbrev pub bytes_in : List Piece → ℕ
-bytes_in [] = 0
-bytes_in (p ∷ rest) = p.len + bytes_in rest
+bytes_in l = sum_by (λ p. p.len) l
 
 abbrev pub joined_length : Group → ℕ
 joined_length x = bytes_in (fragments x)
@@ -56,8 +55,7 @@ unfoldable pub keeps_piece : ℕ → ℕ → Piece → Bool
 keeps_piece total n p = if p.held then n <? total and p.len ≤? place else p.len =? 0
 
 abbrev pub keeps_pieces : ℕ → ℕ → List Piece → Bool
-keeps_pieces total n [] = true
-keeps_pieces total n (p ∷ rest) = keeps_piece total n p and keeps_pieces total (n + 1) rest
+keeps_pieces total n l = every (λ e. keeps_piece total e.0 e.1) (enumerate_from n l)
 
 -- an open group has M 2 to 16 and holds a fragment; a free one is all zero
 abbrev pub keeps_use : Group → Bool
@@ -81,12 +79,7 @@ distinct (x ∷ rest) = no (twice x rest) and distinct rest
 unfoldable pub keeps_groups : Groups → Bool
 keeps_groups t = length t.items =? 4 and every keeps_group t.items and distinct t.items
 
--- ---- searches and places
-
--- the first that passes the test, counted from n
-abbrev pub first : (Group → Bool) → ℕ → List Group → Found
-first p n [] = Found.Nothing
-first p n (x ∷ rest) = if p x then Found.At n else first p (n + 1) rest
+-- ---- places
 
 -- what a list gives past its end
 abbrev pub past_group : Group

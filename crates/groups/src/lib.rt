@@ -2,8 +2,8 @@
 // The state is here, by value; the bytes of the fragments lie in the store, which the host lends.
 #![tactic(auto)]
 
-ghost use Rattle.std.specs.Prelude.{◌≡◌};
-ghost use Rattle.groups.specs.Groups.{free_group, empty, keeps_groups, has_key, is_free, first, complete, joined_length};
+ghost use Rattle.std.specs.Prelude.{◌≡◌, ◌≤◌, length, position};
+ghost use Rattle.groups.specs.Groups.{free_group, empty, keeps_groups, has_key, is_free, complete, bytes_in, joined_length};
 
 mod rules;
 
@@ -16,6 +16,7 @@ pub const PLACE: usize = 1024;
 pub const STORE: usize = 64 * PLACE;
 
 // Whether a fragment is held, and how long it is.
+// A flag and not an Option: a host hands groups in, and keeps_piece (40) speaks of the length of a fragment that is not held.
 #[derive(Clone, Copy)]
 pub struct Piece {
     pub held: bool,
@@ -23,6 +24,7 @@ pub struct Piece {
 }
 
 // A group with its key, M, when its first fragment came, and its fragments 1 to 16; or a free one, all zero.
+// A flag and not an Option: a host hands groups in, and keeps_use (40) speaks of what a free group holds.
 #[derive(Clone, Copy)]
 pub struct Group {
     pub is_open: bool,
@@ -37,60 +39,36 @@ pub struct Groups {
     pub items: [Group; 4],
 }
 
-// The number of a group, where a search found one.
-#[derive(Clone, Copy)]
-pub enum Found {
-    At(usize),
-    Nothing,
-}
-
 impl Groups {
     // 4 free groups.
     pub fn new() -> Groups
         ensures { result ≡ empty }
     {
-        let x = free_group();
-        Groups { items: [x; 4] }
+        Groups {
+            items: [free_group(); 4],
+        }
     }
 
     // Whether the groups keep the rules (40).
+    #[tactic(auto, unfolding(crate::specs::Groups::keeps_groups))]
     pub fn keep_rules(self) -> bool
         ensures { result ≡ keeps_groups self }
     {
-        if !rules::each_keeps(self) {
-            return false;
-        }
-        rules::keys_differ(self)
+        rules::each_keeps(self) && rules::keys_differ(self)
     }
 
     // The group that has the key.
-    pub fn find(self, key: Key) -> Found
-        ensures { result ≡ first (has_key key) 0 self.items }
+    pub fn find(self, key: Key) -> Option<usize>
+        ensures { result ≡ position (has_key key) self.items }
     {
-        let mut i: usize = 0;
-        while i < 4 {
-            let x = self.items[i];
-            if rules::has_key(key, x) {
-                return Found::At(i);
-            }
-            i += 1;
-        }
-        Found::Nothing
+        self.items.iter().position(|x| rules::has_key(key, *x))
     }
 
     // The lowest free group.
-    pub fn find_free(self) -> Found
-        ensures { result ≡ first is_free 0 self.items }
+    pub fn find_free(self) -> Option<usize>
+        ensures { result ≡ position is_free self.items }
     {
-        let mut g: usize = 0;
-        while g < 4 {
-            let x = self.items[g];
-            if !x.is_open {
-                return Found::At(g);
-            }
-            g += 1;
-        }
-        Found::Nothing
+        self.items.iter().position(|x| !x.is_open)
     }
 }
 
@@ -98,14 +76,13 @@ impl Groups {
 pub fn free_group() -> Group
     ensures { result ≡ free_group }
 {
-    let key = groupkeys::no_key();
     let none = Piece {
         held: false,
         len: 0,
     };
     Group {
         is_open: false,
-        key: key,
+        key: groupkeys::no_key(),
         total: 0,
         began: 0,
         pieces: [none; 16],
@@ -116,35 +93,21 @@ pub fn free_group() -> Group
 pub fn is_complete(x: Group) -> bool
     ensures { result ≡ complete x }
 {
-    let total = x.total;
-    let mut i: usize = 0;
-    while i < 16 {
-        if i >= total {
-            return true;
-        }
-        let p = x.pieces[i];
-        if !p.held {
-            return false;
-        }
-        i += 1;
-    }
-    true
+    x.pieces.iter().take(x.total).all(|p| p.held)
 }
 
 // How many bytes the fragments 1 to M have together.
 pub fn joined_length(x: Group) -> usize
     ensures { result ≡ joined_length x }
 {
-    let total = x.total;
-    let mut sum: usize = 0;
-    let mut i: usize = 0;
-    while i < 16 {
-        if i >= total {
-            return sum;
-        }
-        let p = x.pieces[i];
-        sum += lengths::wide16(p.len);
-        i += 1;
-    }
-    sum
+    let n = x.total.min(16);
+    bytes_in(&x.pieces[..n])
+}
+
+// How many bytes fragments have together.
+fn bytes_in(pieces: &[Piece]) -> usize
+    requires { length pieces.now ≤ 16 }
+    ensures { result ≡ bytes_in pieces.now }
+{
+    pieces.iter().map(|p| usize::from(p.len)).sum()
 }

@@ -1,3 +1,2 @@
--- The sweep, and what the public functions leave.
-pub mod Each
+-- What every public contract must show.
 pub mod Unique

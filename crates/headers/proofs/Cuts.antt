@@ -20,7 +20,3 @@ take-cut n l room h = go (leb n room) refl
 
 pub part-front : (n : ℕ) (l : List ℕ) → take (n - 0) (drop 0 l) ≡ take n l
 part-front n l = let z : n - 0 ≡ n = omega arith in rw z
-
--- r is the length that was cut
-pub part_cut : (n room r : ℕ) (l : List ℕ) → r ≡ min n room → length l ≡ room → take (r - 0) (drop 0 l) ≡ take n l
-part_cut n room r l e h = part-front r l ∙ rw e (take-cut n l room h)

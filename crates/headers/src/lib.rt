@@ -1,7 +1,8 @@
 // Document 01, "Names and fields": the headers of a message, and whether their keys all differ.
 #![tactic(auto)]
 
-ghost use Rattle.std.specs.Prelude.{◌≡◌};
+ghost use Rattle.std.specs.Prelude.{◌≡◌, ◌≤◌, length, take};
+ghost use Rattle.octets.specs.Words.{every};
 ghost use Rattle.octets.specs.Bytes.{same};
 ghost use Rattle.headers.specs.Keys.{all_differ, key_of, keys_of};
 ghost use Rattle.headers.specs.Rule.{header, headers};
@@ -23,77 +24,63 @@ pub struct Headers {
 }
 
 // Whether two headers have the same key.
-fn same_key(a: Header, b: Header) -> bool
-    ensures { result ≡ same (key_of a) (key_of b) }
+#[tactic(auto, unfolding(crate::specs::Keys::key_of))]
+fn same_key(a: &Header, b: &Header) -> bool
+    ensures { result ≡ same (key_of a.now) (key_of b.now) }
 {
-    let n = lengths::at_most(a.key_len, 32);
-    let m = lengths::at_most(b.key_len, 32);
-    let k = a.key;
-    let l = b.key;
-    octets::equal(&k[0..n], &l[0..m])
+    a.key[..a.key_len.min(32)] == b.key[..b.key_len.min(32)]
 }
 
 // Whether the headers' keys all differ: the first pair of equal keys ends the search.
 pub fn keys_differ(h: Headers) -> bool
     ensures { result ≡ all_differ (keys_of h) }
 {
-    let n = lengths::at_most(h.count, 8);
+    let n = h.count.min(8);
+    let items = &h.items;
     let mut differ = true;
-    let mut i = 0;
-    'pairs: while i < n {
-        let a = h.items[i];
-        let mut j = i + 1;
-        while j < n {
-            let b = h.items[j];
-            if same_key(a, b) {
+    'pairs: for i in 0..n {
+        for j in i + 1..n {
+            if same_key(&items[i], &items[j]) {
                 differ = false;
                 break 'pairs;
             }
-            j += 1;
         }
-        i += 1;
     }
     differ
 }
 
 // Whether a header's lengths lie in their arrays, its key is a header key and its value a header value.
-fn is_header(h: Header) -> bool
-    ensures { result ≡ header h }
+#[tactic(auto, unfolding(crate::specs::Keys::key_of, crate::specs::Rule::value_of, crate::specs::Rule::header))]
+fn is_header(h: &Header) -> bool
+    ensures { result ≡ header h.now }
 {
-    let n = h.key_len;
-    if 32 < n {
-        return false;
-    }
-    let m = h.value_len;
-    if 128 < m {
-        return false;
-    }
-    let key = h.key;
-    if !names::is_header_key(&key[0..n]) {
-        return false;
-    }
-    let value = h.value;
-    names::is_header_value(&value[0..m])
+    h.key_len <= 32
+        && h.value_len <= 128
+        && names::is_header_key(&h.key[..h.key_len])
+        && names::is_header_value(&h.value[..h.value_len])
+}
+
+// Whether each of the first `count` of the items is a header.
+fn each_is_header(items: &[Header], count: usize) -> bool
+    requires { count ≤ length items.now }
+    ensures { result ≡ every header (take count items.now) }
+{
+    items[..count].iter().all(is_header)
 }
 
 // Whether these are headers that a message may have: at most 8, each a header, and the keys all differ.
+#[tactic(auto, unfolding(crate::specs::Rule::headers))]
 pub fn are_headers(h: Headers) -> bool
     ensures { result ≡ headers h }
 {
-    let n = h.count;
-    if 8 < n {
+    if 8 < h.count {
         return false;
     }
-    let mut i = 0;
-    while i < n {
-        let a = h.items[i];
-        if !is_header(a) {
-            return false;
-        }
-        i += 1;
+    if !each_is_header(&h.items, h.count) {
+        return false;
     }
     // The headers are copied for the search: where there are fewer than two, nothing is to be found.
-    if n < 2 {
+    if h.count < 2 {
         return true;
     }
     keys_differ(h)

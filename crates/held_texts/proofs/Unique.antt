@@ -10,8 +10,8 @@ use Rattle.held_texts.proofs.no_headers.Reads as no-headers-reads
 use Rattle.held_texts.proofs.with_header.Kinds as with-header-kinds
 use Rattle.held_texts.proofs.with_header.Reads as with-header-reads
 
-pub fill_one : One 2 fill-kinds.ps fill-kinds.r fill-reads.Post
-fill_one κs a x y v w p q = (p.0 ∙ sym q.0, λ i. (tt, ((p.1 ∙ sym q.1) i, tt)))
+pub fill-one : One 2 fill-kinds.ps fill-kinds.r fill-reads.Post
+fill-one κs a x y v w p q = (p.0 ∙ sym q.0, λ i. (tt, ((p.1 ∙ sym q.1) i, tt)))
 
 pub fill-free : Free 2 fill-kinds.ps fill-reads.Pre
 fill-free κs a = tt

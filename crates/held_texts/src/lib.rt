@@ -49,17 +49,17 @@ pub fn no_headers() -> Headers
 }
 
 // One header more; of eight there are no more.
+#[tactic(auto, unfolding(crate::specs::Texts::with_header))]
 pub fn with_header(h: Headers, x: Header) -> Headers
     ensures { result ≡ with_header h x }
 {
-    let n = h.count;
-    if 8 <= n {
+    if 8 <= h.count {
         return h;
     }
     let mut items = h.items;
-    items[n] = x;
+    items[h.count] = x;
     Headers {
         items,
-        count: n + 1,
+        count: h.count + 1,
     }
 }

@@ -1,5 +1,5 @@
 -- What the steps of a load come to: the open rows counted, what was read, and the end.
-use Rattle.std.specs.Prelude.{if◌then◌else◌}
+use Rattle.std.specs.Prelude.{Option, Some, None, Result, Ok, Err, if◌then◌else◌}
 use Prim.Native.Nat.{ℕ, zero, suc, ◌+◌, ◌≤◌}
 use native.Mathlib.Omega.{arith}
 use mathlib.Core.Path.{◌≡◌, refl, sym, ap, ◌∙◌, subst}
@@ -10,20 +10,22 @@ use lib.ListN.{length, drop, length-drop}
 use Rattle.octets.specs.Words.{◌and◌, no}
 use Rattle.octets.specs.Bytes.{same}
 use Rattle.octets.specs.Field.{Res, bad, got, bind}
-use Rattle.octets.proofs.Tests.{true-not-false, if_yes, if_no, no_true, no_false, and_both, and-not-left, and-not-right}
+use Rattle.octets.proofs.Tests.{if_yes, if_no, no_true, no_false, and_both, and-not-left, and-not-right}
 use Rattle.octets.proofs.FieldLaws.{bound}
+use Rattle.refusals.specs.declared.Refusal.{Refusal}
+use Rattle.refusals.specs.Refusals.{number_of}
 use Rattle.refusals.specs.Numbers.{state_broken, no_saved_image}
 use Rattle.rows.specs.Answer.{accepted, Outcome, refuse}
 use Rattle.slots.specs.declared.Slot.{Slot}
 use Rattle.streams.specs.declared.Table.{Table}
-use Rattle.streams.specs.declared.Count.{Count}
 use Rattle.streams.specs.Answer.{Counted, counted, uncounted, count_says}
 use Rattle.streams.specs.Calls as calls
 use Rattle.streams.specs.Table.{keeps_table, keeps_slots}
 use Rattle.streams.proofs.Lookups.{kept}
 use Rattle.image_rows.specs.declared.RowsRead.{RowsRead}
-use Rattle.image_rows.specs.Steps.{rows_read, no_rows}
-use Rattle.image_rows.proofs.Reading.{from, rest, slot-takes}
+use Rattle.image_rows.specs.Steps.{rows_read}
+use Rattle.records.proofs.Found.{from, rest}
+use Rattle.image_rows.proofs.Reading.{slot-takes}
 use Rattle.image.specs.Image.{end_record, open_count, slot_from, slots_from, ended, table_of, replaced, load_of}
 
 -- ---- what counting the open rows says of a table
@@ -50,8 +52,8 @@ module _ (t : Table) where
       go false e = a e
       go true e = b e
 
-  module _ (c : Count) (e : count_says c ≡ calls.open_rows t) where
-    pub rules_kept : (n : ℕ) → c ≡ Count.Rows n → Rules t n
+  module _ (c : Result ℕ Refusal) (e : count_says c ≡ calls.open_rows t) where
+    pub rules_kept : (n : ℕ) → c ≡ Ok n → Rules t n
     rules_kept n p = by_count (λ (w : Counted). counted n ≡ w → Rules t n) (λ k q. not-counted q) (λ k q. kept-rows k q) (ap count_says (sym p) ∙ e)
       where
         not-counted : {A : Type 0} {m : ℕ} → counted n ≡ uncounted m → A
@@ -62,37 +64,42 @@ module _ (t : Table) where
             let z : n ≡ open_count t.slots = cc in
             record { keeps = k; rows = z; few = omega (arith, count_most t.slots, (kept t k).long) }
 
-    pub no-rules : (n : ℕ) → c ≡ Count.Refused n → keeps_table t ≡ false
-    no-rules n p = by_count (λ (w : Counted). uncounted n ≡ w → keeps_table t ≡ false) (λ k q. k) (λ k q. not-uncounted q) (ap count_says (sym p) ∙ e)
+    pub no-rules : (why : Refusal) → c ≡ Err why → (keeps_table t ≡ false) × (number_of why ≡ state_broken)
+    no-rules why p =
+        by_count (λ (w : Counted). uncounted (number_of why) ≡ w → (keeps_table t ≡ false) × (number_of why ≡ state_broken)) (λ k q. (k, same-number q)) (λ k q. not-uncounted q)
+        (ap count_says (sym p) ∙ e)
       where
-        not-uncounted : {A : Type 0} {m : ℕ} → uncounted n ≡ counted m → A
+        same-number : {n m : ℕ} → uncounted n ≡ uncounted m → n ≡ m
+        same-number q = cc
+
+        not-uncounted : {A : Type 0} {n m : ℕ} → uncounted n ≡ counted m → A
         not-uncounted q = let z : ◌≡◌ {A = ℕ} 0 1 = cc in absurd (omega arith)
 
 -- ---- the load
 
-rows-missed : (s : List ℕ) (x : Res (List Slot)) (r : RowsRead) → r ≡ rows_read x → r.good ≡ false → ended s x ≡ none
-rows-missed s bad r e g = refl
-rows-missed s (got l n) r e g = go (keeps_slots l) refl (ap (λ (q : RowsRead). q.good) e)
+rows-missed : (s : List ℕ) (x : Res (List Slot)) (r : Option RowsRead) → r ≡ None → r ≡ rows_read x → ended s x ≡ none
+rows-missed s bad r p e = refl
+rows-missed s (got l n) r p e = go (keeps_slots l) refl (sym p ∙ e)
   where
-    go : (b : Bool) → keeps_slots l ≡ b
-        → r.good ≡ (if◌then◌else◌ {A = RowsRead} b (record { good = true; used = n; rows = open_count l; table = record { slots = l } }) no_rows).good
-        → ended s (got l n) ≡ none
-    go true k q = true-not-false r.good q g
+    go : (b : Bool) → keeps_slots l ≡ b → ◌≡◌ {A = Option RowsRead} None (if b then Some (record { table = record { slots = l }; rows = open_count l; used = n }) else None) → ended s (got l n) ≡ none
+    go true k q = cc
     go false k q = if_no _ _ _ (and-not-right (same (drop n s) (end_record (open_count l))) _ k)
 
-rows-found : (x : Res (List Slot)) (r : RowsRead) → r ≡ rows_read x → r.good ≡ true → (x ≡ got r.table.slots r.used) × Rules r.table r.rows
-rows-found bad r e g = let z : ◌≡◌ {A = ℕ} 0 1 = cc in absurd (omega arith)
-rows-found (got l n) r e g = go (keeps_slots l) refl e
+rows-found : (x : Res (List Slot)) (y : RowsRead) (r : Option RowsRead) → r ≡ Some y → r ≡ rows_read x → (x ≡ got y.table.slots y.used) × Rules y.table y.rows
+rows-found bad y r p e = let z : ◌≡◌ {A = ℕ} 0 1 = cc in absurd (omega arith)
+rows-found (got l n) y r p e = go (keeps_slots l) refl (sym p ∙ e)
   where
     read : RowsRead
-    read = record { good = true; used = n; rows = open_count l; table = record { slots = l } }
+    read = record { table = record { slots = l }; rows = open_count l; used = n }
 
     is : keeps_table (record { slots = l }) ≡ true → (got l n ≡ got read.table.slots read.used) × Rules read.table read.rows
     is k = (refl, record { keeps = k; rows = refl; few = omega (arith, count_most l, (kept (record { slots = l }) k).long) })
 
-    go : (b : Bool) → keeps_slots l ≡ b → r ≡ (if b then read else no_rows) → (got l n ≡ got r.table.slots r.used) × Rules r.table r.rows
-    go true k q = subst (λ (y : RowsRead). (got l n ≡ got y.table.slots y.used) × Rules y.table y.rows) (sym q) (is k)
-    go false k q = true-not-false r.good g (ap (λ (y : RowsRead). y.good) q)
+    go : (b : Bool) → keeps_slots l ≡ b → Some y ≡ (if b then Some read else None) → (got l n ≡ got y.table.slots y.used) × Rules y.table y.rows
+    go true k q =
+        let z : y ≡ read = cc in
+        subst (λ (w : RowsRead). (got l n ≡ got w.table.slots w.used) × Rules w.table w.rows) (sym z) (is k)
+    go false k q = let z : ◌≡◌ {A = ℕ} 0 1 = cc in absurd (omega arith)
 
 rows_take : (k i : ℕ) (s : List ℕ) (l : List Slot) (n : ℕ) → slots_from k i s ≡ got l n → n ≤ length s
 rows_take zero i s l n e = let en : n ≡ 0 = cc in omega arith
@@ -103,21 +110,21 @@ rows_take (suc k) i s l n e =
     omega (arith, slot-takes i s b1.val b1.used b1.first, rows_take k (i + 1) (drop b1.used s) b2.val b2.used b2.first, length-drop b1.used s)
 
 module _ (t : Table) (s : List ℕ) where
-  pub load-broken : keeps_table t ≡ false → refuse state_broken t ≡ load_of t s
+  pub load-broken : (n : ℕ) → keeps_table t ≡ false → n ≡ state_broken → refuse n t ≡ load_of t s
   unfolding load_of
-  load-broken e = sym (if_yes _ _ _ (no_false _ e))
+  load-broken n e z = ap {B = Outcome Table} (λ (m : ℕ). refuse m t) z ∙ sym (if_yes _ _ _ (no_false _ e))
 
-  module _ (k : keeps_table t ≡ true) (r : RowsRead) (er : r ≡ rows_read (slots_from 32 0 s)) where
-    pub load-bad : r.good ≡ false → refuse no_saved_image t ≡ load_of t s
+  module _ (k : keeps_table t ≡ true) (o : Option RowsRead) (eo : o ≡ rows_read (slots_from 32 0 s)) where
+    pub load-bad : o ≡ None → refuse no_saved_image t ≡ load_of t s
     unfolding load_of table_of
-    load-bad q = sym (if_no _ _ _ (no_true _ k) ∙ ap (replaced t) (rows-missed s (slots_from 32 0 s) r er q))
+    load-bad q = sym (if_no _ _ _ (no_true _ k) ∙ ap (replaced t) (rows-missed s (slots_from 32 0 s) o q eo))
 
-    module _ (q : r.good ≡ true) where
+    module _ (r : RowsRead) (q : o ≡ Some r) where
       read : slots_from 32 0 s ≡ got r.table.slots r.used
-      read = (rows-found (slots_from 32 0 s) r er q).0
+      read = (rows-found (slots_from 32 0 s) r o q eo).0
 
       pub load-rules : Rules r.table r.rows
-      load-rules = (rows-found (slots_from 32 0 s) r er q).1
+      load-rules = (rows-found (slots_from 32 0 s) r o q eo).1
 
       pub load-room : r.used ≤ length s
       load-room = rows_take 32 0 s r.table.slots r.used read

@@ -51,12 +51,10 @@ open-or-free x e = go x.is_open refl
 -- ---- marks
 
 marked-own : (i : ℕ) (s : List ℕ) → same (take 3 (row_mark i ++ s)) (row_mark i) ≡ true
-unfolding same
 marked-own i s = rw (eq-eqb i i refl)
 
 -- behind the rows from i on and the end record no mark of an earlier row stands
 unmarked : (l : List Slot) (i j n : ℕ) → j < i → same (take 3 (records_from i l ++ end_record n)) (row_mark j) ≡ false
-unfolding same
 unmarked [] i j n h = refl
 unmarked (x ∷ l) i j n h = go x.is_open (unmarked l (i + 1) j n (omega arith))
   where

@@ -104,9 +104,9 @@ module _ (t : Table) (k : keeps_table t ≡ true) where
 -- ---- the save
 
 module _ (t : Table) (out : List ℕ) where
-  pub save-broken : keeps_table t ≡ false → unsaved state_broken out ≡ save_of t out
+  pub save-broken : (n : ℕ) → keeps_table t ≡ false → n ≡ state_broken → unsaved n out ≡ save_of t out
   unfolding save_of
-  save-broken e = sym (if_yes _ _ _ (no_false _ e))
+  save-broken n e z = ap (λ (m : ℕ). unsaved m out) z ∙ sym (if_yes _ _ _ (no_false _ e))
 
   module _ (k : keeps_table t ≡ true) (size : ℕ) (e : size ≡ length (records_from 0 t.slots)) where
     pub save-short : length out < size + 3 → unsaved buffer_too_short out ≡ save_of t out

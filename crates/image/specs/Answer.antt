@@ -1,8 +1,9 @@
--- What a save and a load answer, in document 01's words: the paper's number and values for each case of the answer enums.
-use Rattle.std.specs.Prelude.{ℕ, List}
+-- What a save and a load answer, in document 01's words: the paper's number and values for each case of the code's answers.
+use Rattle.std.specs.Prelude.{ℕ, List, Result, Ok, Err}
+use Rattle.refusals.specs.declared.Refusal.{Refusal}
+use Rattle.refusals.specs.Refusals.{number_of}
 use Rattle.rows.specs.Answer.{Outcome, accepting}
 use Rattle.streams.specs.declared.Table.{Table}
-use Rattle.image.specs.declared.Saved.{Saved}
 use Rattle.image.specs.declared.Loaded.{Loaded}
 
 -- how many bytes were written, or the number of a refusal
@@ -15,11 +16,11 @@ pub record SaveOutcome : Type 0 where
   pub answer : Saving
   pub buffer : List ℕ
 
-abbrev pub saving : Saved → Saving
-saving (Saved.Written n) = written n
-saving (Saved.Refused n) = unwritten n
+abbrev pub saving : Result ℕ Refusal → Saving
+saving (Ok n) = written n
+saving (Err why) = unwritten (number_of why)
 
-abbrev pub saved_says : Saved → List ℕ → SaveOutcome
+abbrev pub saved_says : Result ℕ Refusal → List ℕ → SaveOutcome
 saved_says r buffer = record { answer = saving r; buffer = buffer }
 
 -- a refusal: its number, and the buffer as it was

@@ -1,17 +1,18 @@
 // What a refused load hands back.
 ghost use Rattle.std.specs.Prelude.{◌≡◌};
+ghost use Rattle.refusals.specs.Refusals.{number_of};
 ghost use Rattle.rows.specs.Answer.{refuse};
 ghost use Rattle.image.specs.Answer.{loaded_says};
 
 use crate::Loaded;
-use rows::Accepting;
+use refusals::Refusal;
 use streams::Table;
 
-pub(crate) fn refused(n: u8, t: Table) -> Loaded
-    ensures { loaded_says result ≡ refuse n t }
+pub(crate) fn refused(why: Refusal, table: Table) -> Loaded
+    ensures { loaded_says result ≡ refuse (number_of why) table }
 {
     Loaded {
-        answer: Accepting::Refused(n),
-        table: t,
+        answer: Err(why),
+        table,
     }
 }

@@ -1,3 +1,2 @@
--- The marks of an image: what the first bytes say, and one outcome each.
-pub mod Front
+-- The marks of an image: one outcome each.
 pub mod Unique

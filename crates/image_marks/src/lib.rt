@@ -10,34 +10,22 @@ ghost use Rattle.image_marks.specs.Marks.{row_mark, end_record};
 pub fn is_row(d: &[u8], i: u8) -> bool
     ensures { result ≡ same (take 3 d.now) (row_mark i) }
 {
-    if d.len() < 3 {
-        return false;
-    }
-    if d[0] != 0x53 {
-        return false;
-    }
-    if d[1] != 0x54 {
-        return false;
-    }
-    if d[2] != i {
-        return false;
-    }
-    true
+    d.starts_with(&[0x53, 0x54, i])
 }
 
 // Whether nothing but the end record with the row count stands there.
 pub fn is_end(d: &[u8], rows: u8) -> bool
     ensures { result ≡ same d.now (end_record rows) }
 {
-    let end = [0x53u8, 0x45u8, rows];
-    octets::equal(d, &end)
+    let end = [0x53, 0x45, rows];
+    d == end.as_slice()
 }
 
 // The end record with the row count, written at the place `at` of a lent buffer, if it fits.
 pub fn put_end(rows: u8, out: &mut [u8], at: usize) -> bool
     ensures { (result ≡ fits (end_record rows) at out.old) × (out.new ≡ placed (end_record rows) at out.old) }
 {
-    let last = [0x53u8, 0x45u8, rows];
+    let last = [0x53, 0x45, rows];
     octets::copy_at(&last, out, at)
 }
 
@@ -48,11 +36,5 @@ const END: usize = 3;
 pub fn has_room(records: usize, room: usize) -> bool
     ensures { result ≡ (records + 3 ≤? room) }
 {
-    if room < END {
-        return false;
-    }
-    if room - END < records {
-        return false;
-    }
-    true
+    room.checked_sub(END).is_some_and(|left| records <= left)
 }

@@ -1,15 +1,15 @@
 -- Names in their arrays: a name is copied to the front of zeros, and is read back from there.
-use mathlib.Core.Path.{◌≡◌, refl, sym, ap, ◌∙◌}
-use Prim.Native.Nat.{ℕ, zero, suc, ◌+◌, ◌-◌, ◌≤◌, ◌<◌}
+use mathlib.Core.Path.{◌≡◌, refl, ap, ◌∙◌}
+use Prim.Native.Nat.{ℕ, zero, suc, ◌+◌, ◌-◌, ◌≤◌}
 use native.Mathlib.Omega.{arith}
-use mathlib.Core.Bool.{Bool, true, false}
+use mathlib.Core.Bool.{Bool, true}
 use mathlib.Core.List.{List, [], ◌∷◌}
 use lib.ListN.{length, take, drop, replicate, length-append, length-drop, length-replicate}
 use lib.Seq.{take-append_seam, drop-append_seam}
-use borrow.Author.Tests.{eq-eqb, eqb-true, le-leb, lt-leb}
+use borrow.Author.Tests.{eq-eqb, eqb-true, le-leb}
 use Rattle.octets.specs.Words.{◌and◌, ◌≤?◌, ◌=?◌}
 use Rattle.octets.specs.Bytes.{front, placed, all_zero}
-use Rattle.octets.proofs.Tests.{and_left, and_right, and_both, and-next, and-not-left}
+use Rattle.octets.proofs.Tests.{and_left, and_right, and_both}
 use Rattle.octets.proofs.Lists.{placed-in}
 use Rattle.callsigns.specs.Callsign.{callsign}
 use Rattle.names.specs.Texts.{stream_id}
@@ -86,22 +86,8 @@ key-names k e = (
     valid : (size : ℕ) (p : List ℕ → Bool) (n : ℕ) (a : List ℕ) → holds_name size p n a ≡ true → p (take n a) ≡ true
     valid size p n a h = and_left (p (take n a)) _ (and_right (n ≤? size) _ (and_right (length a =? size) _ h))
 
--- ---- what the tests of a name in its array come to
-module _ (size : ℕ) (valid : List ℕ → Bool) (n : ℕ) (a : List ℕ) (e : length a ≡ size) where
-  pub holds-long : size < n → false ≡ holds_name size valid n a
-  holds-long h = sym (and-next _ _ (eq-eqb _ _ e) ∙ and-not-left _ _ (lt-leb n size h))
-
-  pub holds-bad : n ≤ size → valid (take n a) ≡ false → false ≡ holds_name size valid n a
-  holds-bad h v = sym (and-next _ _ (eq-eqb _ _ e) ∙ and-next _ _ (le-leb n size h) ∙ and-not-left _ _ v)
-
-  pub holds-good : n ≤ size → valid (take n a) ≡ true → all_zero (drop n a) ≡ holds_name size valid n a
-  holds-good h v = sym (and-next _ _ (eq-eqb _ _ e) ∙ and-next _ _ (le-leb n size h) ∙ and-next _ _ v)
-
 -- the code's key is that of its names
-pub key-is : (o s a b : List ℕ) → a ≡ placed o 0 (replicate 12 0) → b ≡ placed s 0 (replicate 255 0) → length o ≤ 12 → length s ≤ 255
+pub key-is : (o s a b : List ℕ) → a ≡ front o (replicate 12 0) → b ≡ front s (replicate 255 0)
     → ◌≡◌ {A = Key} (record { originator = a; originator_len = length o; stream_id = b; stream_id_len = length s }) (key_of o s)
 unfolding key_of
-key-is o s a b p q h k =
-    let x = p ∙ copied o (replicate 12 0) h in
-    let y = q ∙ copied s (replicate 255 0) k in
-    λ i. record { originator = x i; originator_len = length o; stream_id = y i; stream_id_len = length s }
+key-is o s a b x y = λ i. record { originator = x i; originator_len = length o; stream_id = y i; stream_id_len = length s }

@@ -26,11 +26,11 @@ module _ (j k : Key) (e : same_key j k ≡ true) where
 
 pub same_key-sym : (j k : Key) → same_key j k ≡ true → same_key k j ≡ true
 unfolding same_key
-same_key-sym j k e = and_both _ _ (same_call-sym _ _ (calls j k e)) (same-sym _ _ (ids j k e))
+same_key-sym j k e = and_both _ _ (same_call-sym _ _ (calls j k e)) (same-sym (stream_id_of j) (stream_id_of k) (ids j k e))
 
 pub same_key-trans : (i j k : Key) → same_key i j ≡ true → same_key j k ≡ true → same_key i k ≡ true
 unfolding same_key
-same_key-trans i j k e f = and_both _ _ (same_call-trans _ _ _ (calls i j e) (calls j k f)) (same-trans _ _ _ (ids i j e) (ids j k f))
+same_key-trans i j k e f = and_both _ _ (same_call-trans _ _ _ (calls i j e) (calls j k f)) (same-trans (stream_id_of i) (stream_id_of j) (stream_id_of k) (ids i j e) (ids j k f))
 
 -- equal keys are equal to the same keys
 pub same_key-other : (i j k : Key) → same_key i j ≡ true → same_key i k ≡ same_key j k
@@ -44,7 +44,7 @@ same_key-other i j k e = go (same_key i k) (same_key j k) refl refl
 
 -- equal keys have equal marks
 pub marks-same : (j k : Key) → same_key j k ≡ true → mark_of (stream_id_of j) ≡ mark_of (stream_id_of k)
-marks-same j k e = ap mark_of (same-eq _ _ (ids j k e))
+marks-same j k e = ap mark_of (same-eq (stream_id_of j) (stream_id_of k) (ids j k e))
 
 -- ---- what the code's tests of two keys come to, a and b being the originators
 module _ (j k : Key) (a b : List ℕ) (p : a ≡ originator_of j) (q : b ≡ originator_of k) where

@@ -1,12 +1,13 @@
 -- Document 01, "Streams": "a row's key is originator and stream id". What a key is, when two are equal, and the rules that it keeps.
-use Rattle.std.specs.Prelude.{ℕ, ◌+◌, ◌*◌, ◌-◌, Bool, List, [], ◌∷◌, length, take, drop, get_or, replicate, if◌then◌else◌}
+use Rattle.std.specs.Prelude.{ℕ, ◌+◌, ◌*◌, ◌-◌, Bool, List, length, take, drop, get_or, sum, replicate, Result, Ok, Err, if◌then◌else◌}
 use Rattle.octets.specs.Words.{◌and◌, no, ◌≤?◌, ◌=?◌}
 use Rattle.octets.specs.Bytes.{same, front, all_zero}
 use Rattle.refusals.specs.Numbers.{no_callsign, stream_id_malformed}
+use Rattle.refusals.specs.declared.Refusal.{Refusal}
+use Rattle.refusals.specs.Refusals.{number_of}
 use Rattle.callsigns.specs.Callsign.{callsign, same_call}
 use Rattle.names.specs.Texts.{stream_id}
 use Rattle.keys.specs.declared.Key.{Key}
-use Rattle.keys.specs.declared.Named.{Named}
 
 -- the names that a key holds
 abbrev pub originator_of : Key → List ℕ
@@ -20,12 +21,8 @@ unfoldable pub same_key : Key → Key → Bool
 same_key j k = same_call (originator_of j) (originator_of k) and same (stream_id_of j) (stream_id_of k)
 
 -- a number for a stream id, by which the code tells unlike keys apart: the sum of its bytes, then its last byte
-abbrev pub sum_of : List ℕ → ℕ
-sum_of [] = 0
-sum_of (x ∷ s) = x + sum_of s
-
 unfoldable pub mark_of : List ℕ → ℕ
-mark_of id = sum_of id * 256 + get_or id (length id - 1) 0
+mark_of id = sum id * 256 + get_or id (length id - 1) 0
 
 -- the key of two names, each in the front of its array with zeros behind it
 unfoldable pub key_of : List ℕ → List ℕ → Key
@@ -56,6 +53,16 @@ holds_name size valid len array = length array =? size and len ≤? size and val
 -- the state rules of a key (40): the originator is a callsign, the stream id is one, and the bytes past each are zero
 unfoldable pub keeps_key : Key → Bool
 keeps_key k = holds_name 12 callsign k.originator_len k.originator and holds_name 255 stream_id k.stream_id_len k.stream_id
+
+-- a key, or the number of a refusal, which is 0 where there is a key
+pub record Named : Type 0 where
+  pub refusal : ℕ
+  pub key : Key
+
+-- what the code's answer says
+abbrev pub named_says : Result Key Refusal → Named
+named_says (Ok k) = record { refusal = 0; key = k }
+named_says (Err why) = record { refusal = number_of why; key = no_key }
 
 -- the key of the names that a call is given, or the refusal: 8 where the originator is no callsign, then 9 where the stream id is malformed
 unfoldable pub named_of : List ℕ → List ℕ → Named

@@ -1,23 +1,19 @@
 // Document 01, "Streams": a row's key, originator and stream id. Whoever keeps rows by key compares keys by `same` and never looks inside.
 #![tactic(auto)]
 
-ghost use Rattle.std.specs.Prelude.{◌≡◌};
-ghost use Rattle.keys.specs.Key.{no_key, same_key, named_of, keeps_key, is_no_key, stream_id_of, mark_of};
+ghost use Rattle.std.specs.Prelude.{◌≡◌, ◌≤◌, length, replicate, sum};
+ghost use Rattle.octets.specs.Bytes.{front};
+ghost use Rattle.keys.specs.Key.{no_key, same_key, named_says, named_of, keeps_key, is_no_key, stream_id_of, mark_of};
 
-// The names stand in the front of the arrays; the bytes past them are zero.
+use refusals::Refusal;
+
+// The names stand in the front of the arrays; the bytes past them are zero. A key of any other kind that a host hands in is refused with 40.
 #[derive(Clone, Copy)]
 pub struct Key {
     pub originator: [u8; 12],
     pub originator_len: usize,
     pub stream_id: [u8; 255],
     pub stream_id_len: usize,
-}
-
-// A key, or the number of a refusal, which is 0 where there is a key.
-#[derive(Clone, Copy)]
-pub struct Named {
-    pub refusal: u8,
-    pub key: Key,
 }
 
 // No stream's key: all zero.
@@ -33,40 +29,36 @@ pub fn none() -> Key
 }
 
 // The key of the names that a call is given.
-pub fn name(originator: &[u8], stream_id: &[u8]) -> Named
-    ensures { result ≡ named_of originator.now stream_id.now }
+#[tactic(auto, unfolding(crate::specs::Key::named_of))]
+pub fn name(originator: &[u8], stream_id: &[u8]) -> Result<Key, Refusal>
+    ensures { named_says result ≡ named_of originator.now stream_id.now }
 {
     if !callsigns::is_callsign(originator) {
-        let key = none();
-        return Named {
-            refusal: refusals::NO_CALLSIGN,
-            key: key,
-        };
+        return Err(Refusal::NoCallsign);
     }
     if !names::is_stream_id(stream_id) {
-        let key = none();
-        return Named {
-            refusal: refusals::STREAM_ID_MALFORMED,
-            key: key,
-        };
+        return Err(Refusal::StreamIdMalformed);
     }
-    let mut a = [0u8; 12];
-    octets::copy_at(originator, &mut a, 0);
-    let mut b = [0u8; 255];
-    octets::copy_at(stream_id, &mut b, 0);
-    let key = Key {
-        originator: a,
+    Ok(Key {
+        originator: padded(originator),
         originator_len: originator.len(),
-        stream_id: b,
+        stream_id: padded(stream_id),
         stream_id_len: stream_id.len(),
-    };
-    Named {
-        refusal: 0,
-        key: key,
-    }
+    })
+}
+
+// A name in the front of an array, with zeros behind it.
+fn padded<const N: usize>(name: &[u8]) -> [u8; N]
+    requires { length name.now ≤ N }
+    ensures { result ≡ front name.now (replicate N 0) }
+{
+    let mut a = [0u8; N];
+    a[..name.len()].copy_from_slice(name);
+    a
 }
 
 // Whether two keys are equal. Lengths are compared first, then the bytes from the front, so that unlike keys part at once.
+#[tactic(auto, unfolding(crate::specs::Key::same_key))]
 pub fn same(a: Key, b: Key) -> bool
     ensures { result ≡ same_key a b }
 {
@@ -78,33 +70,31 @@ pub fn same(a: Key, b: Key) -> bool
     ) {
         return false;
     }
-    let k = a.stream_id_len;
-    let l = b.stream_id_len;
-    octets::equal(
-        lengths::part(&a.stream_id, k),
-        lengths::part(&b.stream_id, l),
-    )
+    lengths::part(&a.stream_id, a.stream_id_len) == lengths::part(&b.stream_id, b.stream_id_len)
 }
 
 // A number for a key, by which unlike keys are told apart at once: equal keys have equal marks. It is that of the stream id alone.
 pub fn mark(k: Key) -> u32
     ensures { result ≡ mark_of (stream_id_of k) }
 {
-    let n = k.stream_id_len;
-    let id = lengths::part(&k.stream_id, n);
-    if id.len() == 0 {
-        return 0;
+    let id = lengths::part(&k.stream_id, k.stream_id_len);
+    match id.last() {
+        Some(last) => total(id) * 256 + u32::from(*last),
+        None => 0,
     }
-    let mut sum: u32 = 0;
-    let mut i: usize = 0;
-    while i < id.len() {
-        sum += id[i] as u32;
-        i += 1;
-    }
-    sum * 256 + id[id.len() - 1] as u32
+}
+
+// The sum of the bytes of a stream id.
+fn total(id: &[u8]) -> u32
+    requires { length id.now ≤ 255 }
+    ensures value { result ≡ sum id.now }
+    ensures small { result ≤ 65025 }
+{
+    id.iter().map(|b| u32::from(*b)).sum()
 }
 
 // Whether a key keeps its rules (40).
+#[tactic(auto, unfolding(crate::specs::Key::keeps_key))]
 pub fn keeps_rules(k: Key) -> bool
     ensures { result ≡ keeps_key k }
 {
@@ -129,17 +119,12 @@ pub fn keeps_rules(k: Key) -> bool
 }
 
 // Whether all of a key is zero.
+#[tactic(auto, unfolding(crate::specs::Key::is_no_key))]
 pub fn is_none(k: Key) -> bool
     ensures { result ≡ is_no_key k }
 {
-    if k.originator_len != 0 {
-        return false;
-    }
-    if k.stream_id_len != 0 {
-        return false;
-    }
-    if !lengths::zero_from(&k.originator, 0) {
-        return false;
-    }
-    lengths::zero_from(&k.stream_id, 0)
+    k.originator_len == 0
+        && k.stream_id_len == 0
+        && lengths::zero_from(&k.originator, 0)
+        && lengths::zero_from(&k.stream_id, 0)
 }

@@ -2,16 +2,15 @@
 use Prim.Native.Nat.{ℕ, zero, suc, ◌+◌, ◌*◌, ◌/◌, ◌%◌, ◌^◌, ◌≤◌, ◌<◌}
 use mathlib.Core.Path.{◌≡◌, refl}
 use mathlib.Core.Bool.{Bool, true, false}
-use mathlib.Core.List.{List, []}
+use mathlib.Core.List.{List}
 use native.Mathlib.Omega.{arith}
 use lib.ListN.{length, take}
 use lib.Seq.{take-append_seam}
-use lib.IntN.{pos}
 use borrow.Author.Tests.{le-leb, lt-ltb, leb-true, ltb-true, eqb-true, eq-eqb, ne_eqb}
 use Rattle.octets.specs.Words.{◌and◌, ◌<?◌, ◌≤?◌, ◌=?◌, between}
 use Rattle.octets.specs.Field.{Field, num, raw, only, seq, many, signed_num}
 use Rattle.octets.proofs.Tests.{if_yes, and_left, and_right, and_both, inside-high}
-use Rattle.octets.proofs.FieldLaws.{Laws, num_laws, raw_laws, only-laws, when-laws, seq-laws, tagged-laws, through-laws, many-laws, signed-laws}
+use Rattle.octets.proofs.FieldLaws.{Laws, num_laws, raw_laws, only-laws, when-laws, given-laws, seq-laws, tagged-laws, through-laws, many-laws, signed-laws}
 use Rattle.text.specs.Digits.{is_digit}
 use Rattle.text.specs.Hex.{hex_value, hex_digits}
 use Rattle.text.proofs.Hexes.{hex-forth, hex-below}
@@ -24,8 +23,8 @@ use Rattle.envelope.specs.Texts as texts
 use Rattle.envelope.specs.Texts.{padded, call_text, address_text, stream_text, header_text, no_headers}
 use Rattle.envelope.specs.Rules.{call_bytes, address_bytes, stream_bytes}
 use Rattle.layout.specs.declared.Flags.{Flags}
-use Rattle.layout.specs.Texts.{hops_of, hop_array, no_hops}
-use Rattle.layout.specs.Layout.{text, call, address, stream_name, hex_id, hop_list, hops, header, header_list, headers_of, header_array, headers, bit, flags_of, one, flags_number, flags, salt_if, ttl_if, call_if, flood_if, hops_if, fragment, fragment_if, stream, stream_if, headers_if}
+use Rattle.layout.specs.Texts.{hops_of, hop_array}
+use Rattle.layout.specs.Layout.{text, call, address, stream_name, hex_id, hop_list, hops, header, header_list, headers_of, header_array, headers, bit, flags_of, one, flags_number, flags, salt_if, ttl_if, call_if, flood_if, hops_if, fragment_of, fragment_parts, fragment, fragment_if, stream_of, stream_parts, stream, stream_if, headers_if}
 
 -- ---- texts
 
@@ -183,31 +182,35 @@ flags-laws =
 -- ---- the groups
 
 pub salt_if-laws : (b : Bool) → Laws (salt_if b)
-salt_if-laws b = when-laws b (pos 0) signed_num signed-laws
+salt_if-laws b = given-laws b signed_num signed-laws
 
 pub ttl_if-laws : (b : Bool) → Laws (ttl_if b)
-ttl_if-laws b = when-laws b 0 (num 4) (num_laws 4)
+ttl_if-laws b = given-laws b (num 4) (num_laws 4)
 
 pub call_if-laws : (b : Bool) → Laws (call_if b)
-call_if-laws b = when-laws b (call_text []) (call 2) (call-laws 2)
+call_if-laws b = given-laws b (call 2) (call-laws 2)
 
 pub flood_if-laws : (b : Bool) → Laws (flood_if b)
-flood_if-laws b = when-laws b 0 (num 1) (num_laws 1)
+flood_if-laws b = given-laws b (num 1) (num_laws 1)
 
 pub hops_if-laws : (b : Bool) → Laws (hops_if b)
-hops_if-laws b = when-laws b no_hops hops hops-laws
+hops_if-laws b = given-laws b hops hops-laws
 
 pub fragment-laws : Laws fragment
-fragment-laws = seq-laws hex_id _ (λ a h. refl) hex_id-laws (λ mid. seq-laws (num 2) _ (λ a h. refl) (num_laws 2) (λ index. num_laws 2))
+fragment-laws =
+    through-laws fragment_of _ (λ f. true) fragment_parts (λ x e. (refl, refl))
+    (seq-laws hex_id _ (λ a h. refl) hex_id-laws (λ mid. seq-laws (num 2) _ (λ a h. refl) (num_laws 2) (λ index. num_laws 2)))
 
 pub fragment_if-laws : (b : Bool) → Laws (fragment_if b)
-fragment_if-laws b = when-laws b (0, (0, 0)) fragment fragment-laws
+fragment_if-laws b = given-laws b fragment fragment-laws
 
 pub stream-laws : Laws stream
-stream-laws = seq-laws stream_name _ (λ a h. refl) stream_name-laws (λ sid. seq-laws (num 4) _ (λ a h. refl) (num_laws 4) (λ sn. num_laws 4))
+stream-laws =
+    through-laws stream_of _ (λ s. true) stream_parts (λ x e. (refl, refl))
+    (seq-laws stream_name _ (λ a h. refl) stream_name-laws (λ sid. seq-laws (num 4) _ (λ a h. refl) (num_laws 4) (λ sn. num_laws 4)))
 
 pub stream_if-laws : (b : Bool) → Laws (stream_if b)
-stream_if-laws b = when-laws b (stream_text [], (0, 0)) stream stream-laws
+stream_if-laws b = given-laws b stream stream-laws
 
 pub headers_if-laws : (b : Bool) → Laws (headers_if b)
 headers_if-laws b = when-laws b no_headers headers headers-laws

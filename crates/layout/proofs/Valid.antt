@@ -1,4 +1,5 @@
 -- The rules look at nothing that tidying clears: a message keeps them exactly where the tidied one does.
+use Rattle.std.specs.Prelude.{Option, Some, None, is_some}
 use Prim.Native.Nat.{ℕ, ◌^◌, ◌≤◌}
 use mathlib.Core.Path.{◌≡◌, refl, ap, sym, ◌∙◌}
 use mathlib.Core.Bool.{Bool, true, false}
@@ -8,7 +9,7 @@ use lib.ListN.{length, take, length-map}
 use lib.Seq.{take-append_seam}
 use borrow.Author.Tests.{le-leb, ltb-true, leb-false}
 use Rattle.octets.specs.Words.{◌and◌, ◌≤?◌, ◌=?◌, every, between}
-use Rattle.octets.specs.Field.{Field, num, when, only, tagged, many}
+use Rattle.octets.specs.Field.{Field, num, given, only, tagged, many}
 use Rattle.octets.proofs.Tests.{and_left, and_right, and-next, inside-high}
 use Rattle.octets.proofs.FieldLaws.{Laws, only-laws}
 use Rattle.text.proofs.Hexes.{hex-back}
@@ -23,21 +24,21 @@ use Rattle.headers.specs.Rule.{value_of}
 use Rattle.envelope.specs.declared.CallText.{CallText}
 use Rattle.envelope.specs.declared.AddressText.{AddressText}
 use Rattle.envelope.specs.declared.StreamText.{StreamText}
-use Rattle.envelope.specs.Texts.{fitted, padded, call_text, stream_text, no_headers}
-use Rattle.envelope.specs.Rules.{call_bytes, address_bytes, stream_bytes, call_in, address_in, stream_in, id_in, ttl_in, fragment_in, if_set, envelope}
+use Rattle.envelope.specs.Texts.{fitted, padded, no_headers}
+use Rattle.envelope.specs.Rules.{call_bytes, address_bytes, stream_bytes, call_in, address_in, stream_in, id_in, ttl_in, fragment_in, fragment_good, stream_good, if_some, envelope}
 use Rattle.layout.specs.declared.Hops.{Hops}
 use Rattle.layout.specs.declared.Datagram.{Datagram}
-use Rattle.layout.specs.Texts.{hops_of, no_hops}
+use Rattle.layout.specs.Texts.{hops_of}
 use Rattle.layout.specs.Rules.{hops_in, valid}
 use Rattle.layout.specs.Layout.{text, call, address, stream_name, hex_id, hops, header, headers_of, headers, flags, salt_if, ttl_if, call_if, flood_if, hops_if, fragment, fragment_if, stream, stream_if, headers_if, opening, ends, way, options, message_of, message_flags, opening_of, ends_of, way_of, options_of, layout, message}
 use Rattle.layout.proofs.Laws.{text-short, held_whole, held-text, hop_list-short, header_list-between}
-use Rattle.layout.proofs.Whole.{flags-tidy, layout-laws}
+use Rattle.layout.proofs.Whole.{layout-laws}
 
--- a rule behind a flag
-given-when : {A : Type 0} (b : Bool) (blank : A) (F : Field A) (r : A → Bool) (a : A) → (when b blank F).ok a ≡ true → (F.ok a ≡ true → r (F.tidy a) ≡ r a)
-    → if_set b (r ((when b blank F).tidy a)) ≡ if_set b (r a)
-given-when true blank F r a e h = h e
-given-when false blank F r a e h = refl
+-- a rule of a field that may be absent
+given-rule : {A : Type 0} (b : Bool) (F : Field A) (r : A → Bool) (o : Option A) → (given b F).ok o ≡ true → ((a : A) → F.ok a ≡ true → r (F.tidy a) ≡ r a)
+    → if_some r ((given b F).tidy o) ≡ if_some r o
+given-rule b F r None e h = refl
+given-rule b F r (Some a) e h = h a (and_right b _ e)
 
 -- ---- texts
 
@@ -141,13 +142,12 @@ none-rule false h f e = zero-headers no_headers refl ∙ sym (zero-headers h (om
 
 -- ---- the whole message
 
--- tidied, it has the same flags
 pub layout-tidy : (m : Datagram) → layout.tidy m ≡ message_of (
-  (message_flags m, (hex_id.tidy m.fields.id, ((salt_if m.fields.has_salt).tidy m.fields.salt, (ttl_if m.fields.has_ttl).tidy m.fields.ttl))),
+  (message_flags m, (hex_id.tidy m.fields.id, ((salt_if (is_some m.fields.salt)).tidy m.fields.salt, (ttl_if (is_some m.fields.ttl)).tidy m.fields.ttl))),
   ((ends (message_flags m)).tidy (ends_of m), ((way (message_flags m)).tidy (way_of m), (options (message_flags m)).tidy (options_of m))),
 )
 unfolding layout opening
-layout-tidy m = rw (flags-tidy (message_flags m))
+layout-tidy m = refl
 
 module _ (a b c d e f g h i j a' b' c' d' e' f' g' h' i' j' : Bool) where
   rules-same : a ≡ a' → b ≡ b' → c ≡ c' → d ≡ d' → e ≡ e' → f ≡ f' → g ≡ g' → h ≡ h' → i ≡ i' → j ≡ j'
@@ -165,23 +165,20 @@ valid-tidy m e =
     let n = and_left ((ends f).ok (ends_of m)) _ e1 in
     let n1 = and_right (address.ok x.dst) _ n in
     let e2 = and_right ((ends f).ok (ends_of m)) _ e1 in
-    let w1 = and_right ((flood_if m.has_flood).ok m.flood) _ (and_left ((way f).ok (way_of m)) _ e2) in
+    let w1 = and_right ((flood_if f.flood).ok m.flood) _ (and_left ((way f).ok (way_of m)) _ e2) in
     let p = and_right ((way f).ok (way_of m)) _ e2 in
-    let g : ℕ × (ℕ × ℕ) = (x.mid, (x.index, x.total)) in
-    let s : StreamText × (ℕ × ℕ) = (x.sid, (x.sn, x.gt)) in
-    let p1 = and_right ((fragment_if x.has_fragment).ok g) _ p in
-    ap (λ q. valid (message_of ((q, (hex_id.tidy x.id, ((salt_if x.has_salt).tidy x.salt, (ttl_if x.has_ttl).tidy x.ttl))), ((ends f).tidy (ends_of m), ((way f).tidy (way_of m), (options f).tidy (options_of m)))))) (flags-tidy f)
-    ∙ rules-same _ _ _ _ _ _ _ _ _ _ _ _ _ _ _ _ _ _ _ _
+    let p1 = and_right ((fragment_if f.fragment).ok x.fragment) _ p in
+    rules-same _ _ _ _ _ _ _ _ _ _ _ _ _ _ _ _ _ _ _ _
     (ap id_in (id-tidy x.id (and_left _ _ o)))
-    (given-when x.has_ttl 0 (num 4) ttl_in x.ttl (and_right ((salt_if x.has_salt).ok x.salt) _ st) (λ q. refl))
-    (given-when x.has_src (call_text []) (call 2) call_in x.src (and_left _ _ n1) (call-rule 2 x.src))
-    (given-when x.has_fragment (0, (0, 0)) fragment (λ a. fragment_in a.0 a.1.0 a.1.1) g (and_left _ _ p) (λ q. ap (λ v. fragment_in v x.index x.total) (id-tidy x.mid (and_left _ _ q))))
-    (given-when x.has_stream (stream_text [], (0, 0)) stream (λ a. stream_in a.0) s (and_left _ _ p1) (λ q. stream-rule x.sid (and_left _ _ q)))
-    (none-rule (1 ≤? x.headers.count) x.headers refl (and_right ((stream_if x.has_stream).ok s) _ p1))
+    (given-rule f.ttl (num 4) ttl_in x.ttl (and_right ((salt_if f.salt).ok x.salt) _ st) (λ a q. refl))
+    (given-rule f.originator (call 2) call_in x.src (and_left _ _ n1) (call-rule 2))
+    (given-rule f.fragment fragment fragment_good x.fragment (and_left _ _ p) (λ a q. ap (λ v. fragment_in v a.index a.total) (id-tidy a.mid (and_left _ _ q))))
+    (given-rule f.stream stream stream_good x.stream (and_left _ _ p1) (λ a q. stream-rule a.sid (and_left _ _ q)))
+    (none-rule (1 ≤? x.headers.count) x.headers refl (and_right ((stream_if f.stream).ok x.stream) _ p1))
     (address-rule x.dst (and_left _ _ n))
-    (given-when m.has_link (call_text []) (call 2) call_in m.link (and_right ((call_if x.has_src).ok x.src) _ n1) (call-rule 2 m.link))
-    (given-when m.has_route no_hops hops hops_in m.route (and_left _ _ w1) (hops-rule m.route))
-    (given-when m.has_hops no_hops hops hops_in m.hops (and_right ((hops_if m.has_route).ok m.route) _ w1) (hops-rule m.hops))
+    (given-rule f.link (call 2) call_in m.link (and_right ((call_if f.originator).ok x.src) _ n1) (call-rule 2))
+    (given-rule f.route hops hops_in m.route (and_left _ _ w1) hops-rule)
+    (given-rule f.hops hops hops_in m.hops (and_right ((hops_if f.route).ok m.route) _ w1) hops-rule)
 
 pub message-laws : Laws message
 unfolding message

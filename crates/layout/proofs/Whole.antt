@@ -7,12 +7,12 @@ use native.Mathlib.Omega.{arith}
 use lib.ListN.{length, drop, length-take}
 use borrow.Author.Tests.{le-leb}
 use Rattle.octets.specs.Words.{◌≤?◌}
-use Rattle.octets.specs.Field.{Field, got, seq, through}
-use Rattle.octets.proofs.Tests.{and_right, inside-low}
-use Rattle.octets.proofs.FieldLaws.{Read, Laws, bound, seq-laws}
+use Rattle.octets.specs.Field.{Field, got, num, seq, through, signed_num}
+use Rattle.octets.proofs.Tests.{and_left, and_right, inside-low}
+use Rattle.octets.proofs.FieldLaws.{Read, Laws, bound, seq-laws, given-there}
 use Rattle.headers.specs.declared.Headers.{Headers}
 use Rattle.layout.specs.declared.Flags.{Flags}
-use Rattle.layout.specs.Layout.{headers, headers_of, flags, hex_id, salt_if, ttl_if, address, call_if, flood_if, hops_if, fragment_if, stream_if, headers_if, opening, ends, way, options, Opening, Ends, Way, Options, message_of, parts_of, parts, layout}
+use Rattle.layout.specs.Layout.{headers, headers_of, flags, hex_id, salt_if, ttl_if, address, call, call_if, flood_if, hops, hops_if, fragment, fragment_if, stream, stream_if, headers_if, opening, ends, way, options, Opening, Ends, Way, Options, message_of, parts_of, parts, layout}
 use Rattle.layout.proofs.Laws.{bits-number, header_list-between, flags-laws, hex_id-laws, salt_if-laws, ttl_if-laws, address-laws, call_if-laws, flood_if-laws, hops_if-laws, fragment_if-laws, stream_if-laws, headers_if-laws}
 
 -- tidying flags changes nothing
@@ -86,33 +86,34 @@ headers-flag true h e t =
     le-leb 1 h.count (omega (arith, length-take h.count h.items))
 headers-flag false h e t = ap (λ (x : Headers). 1 ≤? x.count) (sym t)
 
+flags-made : (f : Flags) (a b c d e g h i j k : Bool) → a ≡ f.salt → b ≡ f.ttl → c ≡ f.headers → d ≡ f.originator → e ≡ f.link → g ≡ f.flood → h ≡ f.route → i ≡ f.hops → j ≡ f.fragment
+    → k ≡ f.stream → ◌≡◌ {A = Flags} (record { salt = a; ttl = b; headers = c; originator = d; link = e; flood = g; route = h; hops = i; fragment = j; stream = k }) f
+flags-made f a b c d e g h i j k ea eb ec ed ee eg eh ei ej ek = rw (ea, eb, ec, ed, ee, eg, eh, ei, ej, ek)
+
 comes_back : Comes message_of parts_of parts
-unfolding options
+unfolding opening ends way options
 comes_back x e t =
     let f = x.0.0 in
+    let s = and_right (hex_id.ok x.0.1.0) _ (and_right (flags.ok f) _ (and_left (opening.ok x.0) _ e)) in
     let e1 = and_right (opening.ok x.0) _ e in
+    let n = and_right (address.ok x.1.0.0) _ (and_left ((ends f).ok x.1.0) _ e1) in
     let e2 = and_right ((ends f).ok x.1.0) _ e1 in
+    let w = and_left ((way f).ok x.1.1.0) _ e2 in
+    let v = and_right ((flood_if f.flood).ok x.1.1.0.0) _ w in
     let e3 = and_right ((way f).ok x.1.1.0) _ e2 in
     let e4 = and_right ((fragment_if f.fragment).ok x.1.1.1.0) _ e3 in
     let good = and_right ((stream_if f.stream).ok x.1.1.1.1.0) ((headers_if f.headers).ok x.1.1.1.1.1) e4 in
-    ap (λ b. (
-      (
-        record {
-          salt = f.salt;
-          ttl = f.ttl;
-          headers = b;
-          originator = f.originator;
-          link = f.link;
-          flood = f.flood;
-          route = f.route;
-          hops = f.hops;
-          fragment = f.fragment;
-          stream = f.stream;
-        },
-        x.0.1,
-      ),
-      x.1,
-    )) (headers-flag f.headers x.1.1.1.1.1 good (ap (λ (y : Opening × (Ends × (Way × Options))). y.1.1.1.1.1) t))
+    ap (λ (y : Flags). ((y, x.0.1), x.1)) (flags-made f _ _ _ _ _ _ _ _ _ _
+    (given-there f.salt signed_num x.0.1.1.0 (and_left _ _ s))
+    (given-there f.ttl (num 4) x.0.1.1.1 (and_right ((salt_if f.salt).ok x.0.1.1.0) _ s))
+    (headers-flag f.headers x.1.1.1.1.1 good (ap (λ (y : Opening × (Ends × (Way × Options))). y.1.1.1.1.1) t))
+    (given-there f.originator (call 2) x.1.0.1.0 (and_left _ _ n))
+    (given-there f.link (call 2) x.1.0.1.1 (and_right ((call_if f.originator).ok x.1.0.1.0) _ n))
+    (given-there f.flood (num 1) x.1.1.0.0 (and_left _ _ w))
+    (given-there f.route hops x.1.1.0.1.0 (and_left _ _ v))
+    (given-there f.hops hops x.1.1.0.1.1 (and_right ((hops_if f.route).ok x.1.1.0.1.0) _ v))
+    (given-there f.fragment fragment x.1.1.1.0 (and_left _ _ e3))
+    (given-there f.stream stream x.1.1.1.1.0 (and_left _ _ e4)))
 
 pub layout-laws : Laws layout
 unfolding layout

@@ -1,9 +1,9 @@
 -- Source 000, "Datagram bearer": the layout of a version 7 datagram before its payload length, a line for each field, in its order and
 -- with its flag bit. Numbers are little-endian. Each field is read from the part that begins where the last one ended (`seq`).
-use Rattle.std.specs.Prelude.{ℕ, ◌+◌, ◌*◌, ◌/◌, ◌%◌, ◌^◌, Bool, true, List, [], length, take, replicate, ℤ, pos, if◌then◌else◌}
+use Rattle.std.specs.Prelude.{ℕ, ◌+◌, ◌*◌, ◌/◌, ◌%◌, ◌^◌, Bool, true, List, [], length, take, replicate, ℤ, Option, is_some, if◌then◌else◌}
 use Rattle.octets.specs.Words.{◌and◌, ◌<?◌, ◌≤?◌, ◌=?◌, between}
 use Rattle.octets.specs.Bytes.{front}
-use Rattle.octets.specs.Field.{Field, num, raw, only, when, seq, tagged, through, many, signed_num}
+use Rattle.octets.specs.Field.{Field, num, raw, only, when, given, seq, tagged, through, many, signed_num}
 use Rattle.text.specs.Digits.{is_digit}
 use Rattle.text.specs.Hex.{hex_value, hex_digits}
 use Rattle.field_rules.specs.Rules.{id_in}
@@ -14,12 +14,14 @@ use Rattle.headers.specs.Rule.{value_of}
 use Rattle.envelope.specs.declared.CallText.{CallText}
 use Rattle.envelope.specs.declared.AddressText.{AddressText}
 use Rattle.envelope.specs.declared.StreamText.{StreamText}
+use Rattle.envelope.specs.declared.Fragment.{Fragment}
+use Rattle.envelope.specs.declared.Stream.{Stream}
 use Rattle.envelope.specs.Texts.{call_text, address_text, stream_text, header_text, no_headers}
 use Rattle.envelope.specs.Rules.{call_bytes, address_bytes, stream_bytes}
 use Rattle.layout.specs.declared.Hops.{Hops}
 use Rattle.layout.specs.declared.Flags.{Flags}
 use Rattle.layout.specs.declared.Datagram.{Datagram}
-use Rattle.layout.specs.Texts.{hops_of, hop_array, no_hops}
+use Rattle.layout.specs.Texts.{hops_of, hop_array}
 use Rattle.layout.specs.Rules.{valid}
 
 -- ---- texts and lists, with their lengths before them
@@ -118,125 +120,120 @@ abbrev pub id : Field ℕ
 id = hex_id
 
 -- bit 0, HasSalt: [8] salt (signed)
-abbrev pub salt_if : Bool → Field ℤ
-salt_if has = when has (pos 0) signed_num
+abbrev pub salt_if : Bool → Field (Option ℤ)
+salt_if has = given has signed_num
 
 -- bit 1, HasTtl: [4] ttl seconds
-abbrev pub ttl_if : Bool → Field ℕ
-ttl_if has = when has 0 (num 4)
+abbrev pub ttl_if : Bool → Field (Option ℕ)
+ttl_if has = given has (num 4)
 
 -- [2] destination length, [N] destination
 abbrev pub destination : Field AddressText
 destination = address
 
 -- bit 3, HasOriginator, and bit 4, HasLinkSource: [2] length, [N] callsign
-abbrev pub call_if : Bool → Field CallText
-call_if has = when has (call_text []) (call 2)
+abbrev pub call_if : Bool → Field (Option CallText)
+call_if has = given has (call 2)
 
 -- bit 5, HasFloodHopsRemaining: [1] flood hops
-abbrev pub flood_if : Bool → Field ℕ
-flood_if has = when has 0 (num 1)
+abbrev pub flood_if : Bool → Field (Option ℕ)
+flood_if has = given has (num 1)
 
 -- bit 6, HasSourceRoute, and bit 7, HasTraversedHops
-abbrev pub hops_if : Bool → Field Hops
-hops_if has = when has no_hops hops
+abbrev pub hops_if : Bool → Field (Option Hops)
+hops_if has = given has hops
 
 -- bit 8, HasFragment: [7] master id, [2] fragment index, [2] fragment total
-abbrev pub fragment : Field (ℕ × (ℕ × ℕ))
-fragment = seq hex_id (λ mid. seq (num 2) (λ index. num 2))
+abbrev pub fragment_of : ℕ × (ℕ × ℕ) → Fragment
+fragment_of x = record { mid = x.0; index = x.1.0; total = x.1.1 }
 
-abbrev pub fragment_if : Bool → Field (ℕ × (ℕ × ℕ))
-fragment_if has = when has (0, (0, 0)) fragment
+abbrev pub fragment_parts : Field (ℕ × (ℕ × ℕ))
+fragment_parts = seq hex_id (λ mid. seq (num 2) (λ index. num 2))
+
+abbrev pub fragment : Field Fragment
+fragment = through fragment_of (λ f. (f.mid, (f.index, f.total))) (λ f. true) fragment_parts
+
+abbrev pub fragment_if : Bool → Field (Option Fragment)
+fragment_if has = given has fragment
 
 -- bit 9, HasStream: [1] stream id length, [S] stream id, [4] stream seq, [4] stream gap timeout
-abbrev pub stream : Field (StreamText × (ℕ × ℕ))
-stream = seq stream_name (λ sid. seq (num 4) (λ sn. num 4))
+abbrev pub stream_of : StreamText × (ℕ × ℕ) → Stream
+stream_of x = record { sid = x.0; sn = x.1.0; gt = x.1.1 }
 
-abbrev pub stream_if : Bool → Field (StreamText × (ℕ × ℕ))
-stream_if has = when has (stream_text [], (0, 0)) stream
+abbrev pub stream_parts : Field (StreamText × (ℕ × ℕ))
+stream_parts = seq stream_name (λ sid. seq (num 4) (λ sn. num 4))
+
+abbrev pub stream : Field Stream
+stream = through stream_of (λ s. (s.sid, (s.sn, s.gt))) (λ s. true) stream_parts
+
+abbrev pub stream_if : Bool → Field (Option Stream)
+stream_if has = given has stream
 
 -- bit 2, HasHeaders
 abbrev pub headers_if : Bool → Field Headers
 headers_if has = when has no_headers headers
 
+abbrev pub Opening : Type 0
+Opening = Flags × (ℕ × (Option ℤ × Option ℕ))
+
+abbrev pub Ends : Type 0
+Ends = AddressText × (Option CallText × Option CallText)
+
+abbrev pub Way : Type 0
+Way = Option ℕ × (Option Hops × Option Hops)
+
+abbrev pub Options : Type 0
+Options = Option Fragment × (Option Stream × Headers)
+
 -- flags, id, salt, ttl
-unfoldable pub opening : Field (Flags × (ℕ × (ℤ × ℕ)))
+unfoldable pub opening : Field Opening
 opening = seq flags (λ f. seq id (λ i. seq (salt_if f.salt) (λ s. ttl_if f.ttl)))
 
 -- destination, originator, link source
-unfoldable pub ends : Flags → Field (AddressText × (CallText × CallText))
+unfoldable pub ends : Flags → Field Ends
 ends f = seq destination (λ d. seq (call_if f.originator) (λ o. call_if f.link))
 
 -- flood hops, source route, traversed hops
-unfoldable pub way : Flags → Field (ℕ × (Hops × Hops))
+unfoldable pub way : Flags → Field Way
 way f = seq (flood_if f.flood) (λ n. seq (hops_if f.route) (λ r. hops_if f.hops))
 
 -- fragment, stream, headers
-unfoldable pub options : Flags → Field ((ℕ × (ℕ × ℕ)) × ((StreamText × (ℕ × ℕ)) × Headers))
+unfoldable pub options : Flags → Field Options
 options f = seq (fragment_if f.fragment) (λ g. seq (stream_if f.stream) (λ s. headers_if f.headers))
 
-abbrev pub Opening : Type 0
-Opening = Flags × (ℕ × (ℤ × ℕ))
-
-abbrev pub Ends : Type 0
-Ends = AddressText × (CallText × CallText)
-
-abbrev pub Way : Type 0
-Way = ℕ × (Hops × Hops)
-
-abbrev pub Options : Type 0
-Options = (ℕ × (ℕ × ℕ)) × ((StreamText × (ℕ × ℕ)) × Headers)
-
--- ---- a message: these fields, put together
+-- ---- a message: these fields, put together; its flags are set where its fields are there
 
 abbrev pub message_of : Opening × (Ends × (Way × Options)) → Datagram
-message_of x =
-    let f = x.0.0 in
-    let g = x.1.1.1.0 in
-    let s = x.1.1.1.1.0 in
-    record {
-      fields = record {
-        id = x.0.1.0;
-        has_salt = f.salt;
-        salt = x.0.1.1.0;
-        has_ttl = f.ttl;
-        ttl = x.0.1.1.1;
-        has_src = f.originator;
-        src = x.1.0.1.0;
-        has_fragment = f.fragment;
-        mid = g.0;
-        index = g.1.0;
-        total = g.1.1;
-        has_stream = f.stream;
-        sid = s.0;
-        sn = s.1.0;
-        gt = s.1.1;
-        headers = x.1.1.1.1.1;
-        dst = x.1.0.0;
-      };
-      has_link = f.link;
-      link = x.1.0.1.1;
-      has_flood = f.flood;
-      flood = x.1.1.0.0;
-      has_route = f.route;
-      route = x.1.1.0.1.0;
-      has_hops = f.hops;
-      hops = x.1.1.0.1.1;
-    }
+message_of x = record {
+  fields = record {
+    id = x.0.1.0;
+    salt = x.0.1.1.0;
+    ttl = x.0.1.1.1;
+    src = x.1.0.1.0;
+    fragment = x.1.1.1.0;
+    stream = x.1.1.1.1.0;
+    headers = x.1.1.1.1.1;
+    dst = x.1.0.0;
+  };
+  link = x.1.0.1.1;
+  flood = x.1.1.0.0;
+  route = x.1.1.0.1.0;
+  hops = x.1.1.0.1.1;
+}
 
 -- the flags of a message; it has headers where it has one or more
 abbrev pub message_flags : Datagram → Flags
 message_flags m = record {
-  salt = m.fields.has_salt;
-  ttl = m.fields.has_ttl;
+  salt = is_some m.fields.salt;
+  ttl = is_some m.fields.ttl;
   headers = 1 ≤? m.fields.headers.count;
-  originator = m.fields.has_src;
-  link = m.has_link;
-  flood = m.has_flood;
-  route = m.has_route;
-  hops = m.has_hops;
-  fragment = m.fields.has_fragment;
-  stream = m.fields.has_stream;
+  originator = is_some m.fields.src;
+  link = is_some m.link;
+  flood = is_some m.flood;
+  route = is_some m.route;
+  hops = is_some m.hops;
+  fragment = is_some m.fields.fragment;
+  stream = is_some m.fields.stream;
 }
 
 abbrev pub opening_of : Datagram → Opening
@@ -249,7 +246,7 @@ abbrev pub way_of : Datagram → Way
 way_of m = (m.flood, (m.route, m.hops))
 
 abbrev pub options_of : Datagram → Options
-options_of m = ((m.fields.mid, (m.fields.index, m.fields.total)), ((m.fields.sid, (m.fields.sn, m.fields.gt)), m.fields.headers))
+options_of m = (m.fields.fragment, (m.fields.stream, m.fields.headers))
 
 abbrev pub parts_of : Datagram → Opening × (Ends × (Way × Options))
 parts_of m = (opening_of m, (ends_of m, (way_of m, options_of m)))

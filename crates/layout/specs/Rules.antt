@@ -1,7 +1,7 @@
 -- Document 01, "The datagram": the rules of a message that a datagram carries. The line's rules hold for the fields that it shares.
 use Rattle.std.specs.Prelude.{Bool}
 use Rattle.octets.specs.Words.{◌and◌, ◌≤?◌, every}
-use Rattle.envelope.specs.Rules.{call_in, if_set, envelope}
+use Rattle.envelope.specs.Rules.{call_in, if_some, envelope}
 use Rattle.layout.specs.declared.Hops.{Hops}
 use Rattle.layout.specs.declared.Datagram.{Datagram}
 use Rattle.layout.specs.Texts.{hops_of}
@@ -14,6 +14,6 @@ hops_in h = h.count ≤? 16 and every call_in (hops_of h)
 unfoldable pub valid : Datagram → Bool
 valid m =
     envelope m.fields
-    and (if_set m.has_link (call_in m.link)
-    and (if_set m.has_route (hops_in m.route)
-    and if_set m.has_hops (hops_in m.hops)))
+    and (if_some call_in m.link
+    and (if_some hops_in m.route
+    and if_some hops_in m.hops))

@@ -1,5 +1,5 @@
 -- Hops held in an array, and the blank message.
-use Rattle.std.specs.Prelude.{false, List, [], length, take, replicate}
+use Rattle.std.specs.Prelude.{List, [], length, take, replicate, None}
 use Rattle.octets.specs.Bytes.{front}
 use Rattle.envelope.specs.declared.CallText.{CallText}
 use Rattle.envelope.specs.Texts.{call_text, blank_envelope}
@@ -18,14 +18,4 @@ unfoldable pub no_hops : Hops
 no_hops = hop_array []
 
 unfoldable pub blank_datagram : Datagram
-blank_datagram = record {
-  fields = blank_envelope;
-  has_link = false;
-  link = call_text [];
-  has_flood = false;
-  flood = 0;
-  has_route = false;
-  route = no_hops;
-  has_hops = false;
-  hops = no_hops;
-}
+blank_datagram = record { fields = blank_envelope; link = None; flood = None; route = None; hops = None }

@@ -3,10 +3,10 @@
 #![tactic(auto)]
 
 ghost use Rattle.std.specs.Prelude.{◌≡◌};
-ghost use Rattle.octets.specs.Words.{◌and◌};
-ghost use Rattle.envelope.specs.Rules.{call_in, if_set};
+ghost use Rattle.octets.specs.Words.{◌and◌, every};
+ghost use Rattle.envelope.specs.Rules.{call_in, if_some};
 ghost use Rattle.layout.specs.Rules.{hops_in, valid};
-ghost use Rattle.layout.specs.Texts.{no_hops, blank_datagram};
+ghost use Rattle.layout.specs.Texts.{no_hops};
 
 use envelope::{CallText, Envelope};
 
@@ -36,14 +36,10 @@ pub struct Flags {
 #[derive(Clone, Copy)]
 pub struct Datagram {
     pub fields: Envelope,
-    pub has_link: bool,
-    pub link: CallText,
-    pub has_flood: bool,
-    pub flood: u8,
-    pub has_route: bool,
-    pub route: Hops,
-    pub has_hops: bool,
-    pub hops: Hops,
+    pub link: Option<CallText>,
+    pub flood: Option<u8>,
+    pub route: Option<Hops>,
+    pub hops: Option<Hops>,
 }
 
 // No hops.
@@ -60,100 +56,48 @@ pub fn no_hops() -> Hops
     }
 }
 
-// The message of no datagram: what the reader answers beside a refusal.
-pub fn blank() -> Datagram
-    ensures { result ≡ blank_datagram }
+// Whether each is a callsign.
+fn are_calls(items: &[CallText]) -> bool
+    ensures { result ≡ every call_in items.now }
 {
-    let fields = envelope::blank();
-    let link = CallText {
-        len: 0,
-        bytes: [0u8; 12],
-    };
-    let route = no_hops();
-    let hops = no_hops();
-    Datagram {
-        fields,
-        has_link: false,
-        link,
-        has_flood: false,
-        flood: 0,
-        has_route: false,
-        route,
-        has_hops: false,
-        hops,
-    }
+    items.iter().all(|t| envelope::is_call(*t))
 }
 
 // Whether these are hops: at most 16, each a callsign.
-#[tactic(auto, using(crate::proofs::Past::hops_over))]
-fn are_hops(h: Hops) -> bool
-    ensures { result ≡ hops_in h }
+#[tactic(auto, unfolding(crate::specs::Rules::hops_in))]
+fn are_hops(h: &Hops) -> bool
+    ensures { result ≡ hops_in h.now }
 {
-    let n = h.count;
-    if 16 < n {
+    if 16 < h.count {
         return false;
     }
-    let mut i = 0;
-    while i < n {
-        let t = h.items[i];
-        if !envelope::is_call(t) {
-            return false;
-        }
-        i += 1;
-    }
-    true
+    are_calls(&h.items[..h.count])
 }
 
-// Where the flag is set, a callsign.
-fn link_rule(has: bool, link: CallText) -> bool
-    ensures { result ≡ if_set has (call_in link) }
+// Whether hops that may be absent are hops where they are there.
+fn hops_rule(hops: Option<Hops>) -> bool
+    ensures { result ≡ if_some hops_in hops }
 {
-    if !has {
-        return true;
-    }
-    envelope::is_call(link)
-}
-
-// Where the flag is set, hops.
-fn hops_rule(has: bool, hops: Hops) -> bool
-    ensures { result ≡ if_set has (hops_in hops) }
-{
-    if !has {
-        return true;
-    }
-    are_hops(hops)
+    hops.is_none_or(|h| are_hops(&h))
 }
 
 // Whether the fields that only a datagram has keep their rules: link source, source route and traversed hops.
-pub fn own_rules(
-    has_link: bool,
-    link: CallText,
-    has_route: bool,
-    route: Hops,
-    has_hops: bool,
-    hops: Hops,
-) -> bool
-    ensures { result ≡ if_set has_link (call_in link) and (if_set has_route (hops_in route) and if_set has_hops (hops_in hops)) }
+fn own_rules(m: &Datagram) -> bool
+    ensures { result ≡ if_some call_in m.now.link and (if_some hops_in m.now.route and if_some hops_in m.now.hops) }
 {
-    if !link_rule(has_link, link) {
+    if !m.link.is_none_or(|t| envelope::is_call(t)) {
         return false;
     }
-    if !hops_rule(has_route, route) {
+    if !hops_rule(m.route) {
         return false;
     }
-    hops_rule(has_hops, hops)
+    hops_rule(m.hops)
 }
 
 // Whether the message is one that a datagram may carry.
-pub fn is_valid(m: Datagram) -> bool
-    ensures { result ≡ valid m }
+#[tactic(auto, unfolding(crate::specs::Rules::valid))]
+pub fn is_valid(m: &Datagram) -> bool
+    ensures { result ≡ valid m.now }
 {
-    let fields = m.fields;
-    let link = m.link;
-    let route = m.route;
-    let hops = m.hops;
-    if !envelope::is_valid(fields) {
-        return false;
-    }
-    own_rules(m.has_link, link, m.has_route, route, m.has_hops, hops)
+    envelope::is_valid(m.fields) && own_rules(m)
 }

@@ -11,23 +11,17 @@ ghost use Rattle.letters.specs.Letters.{upper, folded};
 fn upper(x: u8) -> u8
     ensures { result ≡ upper x }
 {
-    if x < b'a' {
-        return x;
+    match x {
+        b'a'..=b'z' => x - 32,
+        _ => x,
     }
-    if b'z' < x {
-        return x;
-    }
-    x - 32
 }
 
 // Whether two bytes agree after a to z become A to Z. They are folded only where they differ, since most bytes that are compared are equal.
 fn agree(x: u8, y: u8) -> bool
     ensures { result ≡ (upper x =? upper y) }
 {
-    if x == y {
-        return true;
-    }
-    upper(x) == upper(y)
+    x == y || upper(x) == upper(y)
 }
 
 // Whether two texts agree after a to z become A to Z. Lengths are compared first, then the bytes from the front, so that unlike texts part at once.
@@ -37,12 +31,11 @@ pub fn alike(a: &[u8], b: &[u8]) -> bool
     if a.len() != b.len() {
         return false;
     }
-    let mut i = 0;
-    while i < a.len() {
+    // By index: `zip` with `all` takes more than twice as long.
+    for i in 0..a.len() {
         if !agree(a[i], b[i]) {
             return false;
         }
-        i += 1;
     }
     true
 }

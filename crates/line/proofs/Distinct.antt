@@ -19,7 +19,8 @@ use Rattle.headers.specs.Keys.{all_differ, key_of, keys_of}
 use Rattle.headers.specs.Rule.{header, headers}
 use Rattle.headers.specs.declared.Header.{Header}
 use Rattle.envelope.specs.Texts.{fitted, padded, header_text}
-use Rattle.envelope.specs.Rules.{envelope, if_set, id_in, ttl_in, call_in, fragment_in, stream_in}
+use Rattle.envelope.specs.Rules.{envelope, if_some, id_in, ttl_in, call_in}
+use Rattle.envelope.specs.Rules as rules
 use Rattle.envelope.specs.declared.Envelope.{Envelope}
 use Rattle.tokens.specs.Cuts.{has}
 use Rattle.tokens.specs.Tokens.{Token, words, tokens, keys, others, last_only, keyed, equals}
@@ -112,8 +113,8 @@ agree false false f g = refl
 envelope-headers : (e : Envelope) → envelope e ≡ true → headers e.headers ≡ true
 unfolding envelope
 envelope-headers e h =
-    and_left _ _ (and_right (if_set e.has_stream (stream_in e.sid)) _ (and_right (if_set e.has_fragment (fragment_in e.mid e.index e.total)) _
-    (and_right (if_set e.has_src (call_in e.src)) _ (and_right (if_set e.has_ttl (ttl_in e.ttl)) _ (and_right (id_in e.id) _ h)))))
+    and_left _ _ (and_right (if_some rules.stream_good e.stream) _ (and_right (if_some rules.fragment_good e.fragment) _
+    (and_right (if_some call_in e.src) _ (and_right (if_some ttl_in e.ttl) _ (and_right (id_in e.id) _ h)))))
 
 -- the rules in the definition's order, and in the code's: that the other keys differ follows from the last two
 module _ (T W I E R O L P S F M H N : Bool) (apart : H ≡ true → N ≡ true → O ≡ true) where

@@ -1,5 +1,4 @@
 -- Laws of the line, and what every public contract must show.
-pub mod Texts
 pub mod Distinct
 pub mod Refusals
 pub mod Unique

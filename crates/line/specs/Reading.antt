@@ -1,5 +1,5 @@
 -- Document 01, "The ihave line": what reading a line finds. The line is split into tokens, each key is looked up, and the rules are tests.
-use Rattle.std.specs.Prelude.{ℕ, zero, suc, ◌-◌, Bool, true, List, length, take, if◌then◌else◌}
+use Rattle.std.specs.Prelude.{ℕ, zero, suc, ◌-◌, Bool, true, List, length, take, Result, Ok, Err, if◌then◌else◌}
 use Rattle.octets.specs.Words.{◌and◌, no, ◌=?◌}
 use Rattle.text.specs.Hex.{hex_value}
 use Rattle.names.specs.Reserved.{key_chk}
@@ -15,8 +15,8 @@ pub use Rattle.line_frame.specs.Frame.{ihave, verb_word, id_word, rest_of}
 unfoldable pub use Rattle.line_frame.specs.Frame.{plain, is_text, framed}
 unfoldable pub use Rattle.line_fields.specs.Fields.{fields_of}
 use Rattle.line.specs.declared.Line.{Line}
-use Rattle.line.specs.declared.LineAnswer.{LineAnswer}
-use Rattle.line.specs.declared.LineReading.{LineReading}
+use Rattle.refusals.specs.declared.Refusal.{Refusal}
+use Rattle.refusals.specs.Refusals.{number_of}
 
 -- ---- what the line says
 
@@ -45,9 +45,9 @@ chk_right s ts = if present key_chk ts then crc16 (take (length s - 9) s) =? hex
 unfoldable pub refusal_of : List ℕ → ℕ
 refusal_of s = refuses_reading (no (well_formed s)) (no (chk_right s (tokens (rest_of s)))) (deflated (tokens (rest_of s))) (len_of (tokens (rest_of s)))
 
--- ---- the answer, in this paper's words: its number and values for each case of the answer's enum
+-- ---- the answer: its number and values for each case of what the code answers
 
--- read; refused, with the number of document 01's table
+-- read; refused, with the number of the table
 pub data Reading : Type 0 where
   Read : Reading
   Refused : (number : ℕ) → Reading
@@ -57,15 +57,12 @@ pub record Outcome : Type 0 where
   pub reading : Reading
   pub line : Line
 
-abbrev pub reading_says : LineReading → Reading
-reading_says LineReading.Read = Read
-reading_says (LineReading.Refused n) = Refused n
-
-abbrev pub says : LineAnswer → Outcome
-says r = record { reading = reading_says r.reading; line = r.line }
-
 unfoldable pub blank_line : Line
 blank_line = record { len = 0; fields = blank_envelope }
+
+abbrev pub says : Result Line Refusal → Outcome
+says (Ok m) = record { reading = Read; line = m }
+says (Err r) = record { reading = Refused (number_of r); line = blank_line }
 
 -- by the number that refuses the line
 abbrev pub read_as : ℕ → Line → Outcome

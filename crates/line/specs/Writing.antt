@@ -1,5 +1,6 @@
 -- Document 01, "The ihave line": how a message is written, and which messages can be.
-use Rattle.std.specs.Prelude.{ℕ, Bool, true, List, [], ◌∷◌, ◌++◌, map, length, take, if◌then◌else◌}
+use Rattle.std.specs.Prelude.{ℕ, Bool, List, [], ◌∷◌, ◌++◌, map, length, take, Option, Some}
+use Rattle.std.specs.Option.{option_map, option_to_list}
 use Rattle.text.specs.Decimal.{decimal, signed_decimal}
 use Rattle.text.specs.Hex.{hex_digits}
 use Rattle.names.specs.Reserved.{key_len, key_fmt, key_s, key_dst, key_chk, key_ttl, key_src, key_mid, key_frag, key_sid, key_sn, key_gt}
@@ -9,6 +10,8 @@ use Rattle.headers.specs.declared.Header.{Header}
 use Rattle.headers.specs.declared.Headers.{Headers}
 use Rattle.crc16.specs.Crc.{crc16}
 use Rattle.envelope.specs.Rules.{call_bytes, address_bytes, stream_bytes, envelope}
+use Rattle.envelope.specs.declared.Fragment.{Fragment}
+use Rattle.envelope.specs.declared.Stream.{Stream}
 use Rattle.tokens.specs.Tokens.{Token, token, word_of, spaced}
 use Rattle.line.specs.declared.Line.{Line}
 use Rattle.line_values.specs.Values.{slash}
@@ -16,35 +19,49 @@ use Rattle.line_groups.specs.Rules.{'p'}
 use Rattle.line_refusals.specs.Order.{refuses_writing, line_good}
 use Rattle.line.specs.Reading.{ihave}
 
--- a token that is written where `on` is true
+-- a key, and the value that is written where there is one
 pub record Choice : Type 0 where
-  pub on : Bool
-  pub what : Token
+  pub key : List ℕ
+  pub text : Option (List ℕ)
 
-abbrev pub choice : Bool → List ℕ → List ℕ → Choice
-choice b k v = record { on = b; what = token k v }
+abbrev pub choice : List ℕ → Option (List ℕ) → Choice
+choice k v = record { key = k; text = v }
 
+-- the tokens of those that have a value
 unfoldable pub chosen : List Choice → List Token
 chosen [] = []
-chosen (c ∷ cs) = if c.on then (c.what ∷ chosen cs) else chosen cs
+chosen (c ∷ cs) = option_to_list (option_map (token c.key) c.text) ++ chosen cs
 
--- N/M
-abbrev pub part_text : ℕ → ℕ → List ℕ
-part_text n m = decimal n ++ (slash ∷ decimal m)
+-- a fragment's master id and its N/M
+abbrev pub mid_text : Fragment → List ℕ
+mid_text f = hex_digits 7 f.mid
+
+abbrev pub part_text : Fragment → List ℕ
+part_text f = decimal f.index ++ (slash ∷ decimal f.total)
+
+-- a stream's id and numbers
+abbrev pub sid_text : Stream → List ℕ
+sid_text s = stream_bytes s.sid
+
+abbrev pub sn_text : Stream → List ℕ
+sn_text s = decimal s.sn
+
+abbrev pub gt_text : Stream → List ℕ
+gt_text s = decimal s.gt
 
 -- the writer's order: len fmt s ttl src mid frag sid sn gt; `fmt=p` always
 unfoldable pub choices_of : Line → List Choice
 choices_of m =
-    choice true key_len (decimal m.len)
-    ∷ choice true key_fmt 'p'
-    ∷ choice m.fields.has_salt key_s (signed_decimal m.fields.salt)
-    ∷ choice m.fields.has_ttl key_ttl (decimal m.fields.ttl)
-    ∷ choice m.fields.has_src key_src (call_bytes m.fields.src)
-    ∷ choice m.fields.has_fragment key_mid (hex_digits 7 m.fields.mid)
-    ∷ choice m.fields.has_fragment key_frag (part_text m.fields.index m.fields.total)
-    ∷ choice m.fields.has_stream key_sid (stream_bytes m.fields.sid)
-    ∷ choice m.fields.has_stream key_sn (decimal m.fields.sn)
-    ∷ choice m.fields.has_stream key_gt (decimal m.fields.gt)
+    choice key_len (Some (decimal m.len))
+    ∷ choice key_fmt (Some 'p')
+    ∷ choice key_s (option_map signed_decimal m.fields.salt)
+    ∷ choice key_ttl (option_map decimal m.fields.ttl)
+    ∷ choice key_src (option_map call_bytes m.fields.src)
+    ∷ choice key_mid (option_map mid_text m.fields.fragment)
+    ∷ choice key_frag (option_map part_text m.fields.fragment)
+    ∷ choice key_sid (option_map sid_text m.fields.stream)
+    ∷ choice key_sn (option_map sn_text m.fields.stream)
+    ∷ choice key_gt (option_map gt_text m.fields.stream)
     ∷ []
 
 -- then the headers, and dst

@@ -1,18 +1,21 @@
 -- Tokens added to a draft one after the other: they are added as one text.
+use Rattle.std.specs.Prelude.{Option, Some}
+use Rattle.std.specs.Option.{option_map}
 use Prim.Native.Nat.{ℕ, ◌+◌, ◌<◌, min}
 use mathlib.Core.Path.{◌≡◌, refl, sym, ap, ◌∙◌}
-use mathlib.Core.Bool.{Bool, true, false}
 use mathlib.Core.List.{List, [], ◌∷◌, ◌++◌, append_assoc, append-nil, map}
 use native.Mathlib.Omega.{arith}
 use lib.ListN.{length, take, drop, get_or, length-map, length-take, get_or-map}
 use lib.Seq.{drop-length, get_or-take}
-use Rattle.octets.proofs.Tests.{if_yes, if_no}
 use Rattle.octets.proofs.Lists.{drop-next}
+use Rattle.names.specs.Reserved.{key_mid, key_frag}
+use Rattle.envelope.specs.declared.Fragment.{Fragment}
 use Rattle.tokens.specs.Tokens.{Token, word_of, spaced, space, equals}
 use Rattle.headers.specs.declared.Headers.{Headers}
 use Rattle.headers.proofs.Pairs.{no_header}
-use Rattle.line.specs.Writing.{Choice, choice, chosen, header_token, header_tokens}
-use Rattle.line_draft.specs.Draft.{Draft, draft, added, Adds}
+use Rattle.line.specs.Writing.{choice, chosen, mid_text, part_text, header_token, header_tokens}
+use Rattle.line_draft.specs.Drafts.{added}
+use Rattle.line_draft.specs.declared.Draft.{Draft}
 use Rattle.line_draft.proofs.Drafts.{add-three}
 use Rattle.line_body.specs.Steps.{key_part, add_pair, add_tokens}
 
@@ -38,59 +41,12 @@ tokens-text (t ∷ ts) w d =
     (append_assoc w (key_part t.key ++ t.value) (spaced (map word_of ts))
     ∙ ap (λ (s : List ℕ). w ++ s) (append_assoc (key_part t.key) t.value (spaced (map word_of ts)) ∙ token-text t (spaced (map word_of ts))))
 
--- ---- choices
+-- ---- the tokens of a fragment that is there, and one token
 
-choice-on : (c : Choice) (cs : List Choice) (d : Draft) → c.on ≡ true → add_tokens (chosen (c ∷ cs)) d ≡ add_tokens (chosen cs) (added c.what.value (added (key_part c.what.key) d))
+pub fragment-put : (o : Option Fragment) (f : Fragment) (d : Draft) → o ≡ Some f
+    → add_pair (key_part key_frag) (part_text f) (add_pair (key_part key_mid) (mid_text f) d) ≡ add_tokens (chosen (choice key_mid (option_map mid_text o) ∷ choice key_frag (option_map part_text o) ∷ [])) d
 unfolding chosen add_tokens
-choice-on c cs d e = ap (λ (ts : List Token). add_tokens ts d) (if_yes _ _ _ e)
-
-choice-off : (c : Choice) (cs : List Choice) (d : Draft) → c.on ≡ false → add_tokens (chosen (c ∷ cs)) d ≡ add_tokens (chosen cs) d
-unfolding chosen
-choice-off c cs d e = ap (λ (ts : List Token). add_tokens ts d) (if_no _ _ _ e)
-
-none-chosen : (d : Draft) → add_tokens (chosen []) d ≡ d
-unfolding chosen add_tokens
-none-chosen d = refl
-
-module _ (on : Bool) (k v : List ℕ) (d : Draft) where
-  one_on : on ≡ true → added v (added (key_part k) d) ≡ add_tokens (chosen (choice on k v ∷ [])) d
-  one_on e = sym (choice-on (choice on k v) [] d e ∙ none-chosen _)
-
-  one-off : on ≡ false → d ≡ add_tokens (chosen (choice on k v ∷ [])) d
-  one-off e = sym (choice-off (choice on k v) [] d e ∙ none-chosen d)
-
-  module _ (k₂ v₂ : List ℕ) where
-    pub two-on : on ≡ true → added v₂ (added (key_part k₂) (added v (added (key_part k) d))) ≡ add_tokens (chosen (choice on k v ∷ choice on k₂ v₂ ∷ [])) d
-    two-on e = sym (choice-on (choice on k v) (choice on k₂ v₂ ∷ []) d e ∙ choice-on (choice on k₂ v₂) [] _ e ∙ none-chosen _)
-
-    pub two-off : on ≡ false → d ≡ add_tokens (chosen (choice on k v ∷ choice on k₂ v₂ ∷ [])) d
-    two-off e = sym (choice-off (choice on k v) (choice on k₂ v₂ ∷ []) d e ∙ choice-off (choice on k₂ v₂) [] d e ∙ none-chosen d)
-
-    module _ (k₃ v₃ : List ℕ) where
-      three-on : on ≡ true
-          → added v₃ (added (key_part k₃) (added v₂ (added (key_part k₂) (added v (added (key_part k) d))))) ≡ add_tokens (chosen (choice on k v ∷ choice on k₂ v₂ ∷ choice on k₃ v₃ ∷ [])) d
-      three-on e =
-          sym (choice-on (choice on k v) (choice on k₂ v₂ ∷ choice on k₃ v₃ ∷ []) d e ∙ choice-on (choice on k₂ v₂) (choice on k₃ v₃ ∷ []) _ e ∙ choice-on (choice on k₃ v₃) [] _ e ∙ none-chosen _)
-
-      three-off : on ≡ false → d ≡ add_tokens (chosen (choice on k v ∷ choice on k₂ v₂ ∷ choice on k₃ v₃ ∷ [])) d
-      three-off e =
-          sym (choice-off (choice on k v) (choice on k₂ v₂ ∷ choice on k₃ v₃ ∷ []) d e ∙ choice-off (choice on k₂ v₂) (choice on k₃ v₃ ∷ []) d e ∙ choice-off (choice on k₃ v₃) [] d e ∙ none-chosen d)
-
--- a pair that was added is a token that was chosen
-pub pair-off : (on : Bool) (k v : List ℕ) (d : Draft) → on ≡ false → d ≡ add_pair on k v d
-pair-off on k v d e = sym (if_no _ _ _ e)
-
-pub pair-on : (on : Bool) (k v : List ℕ) (d : Draft) → on ≡ true → added v (added k d) ≡ add_pair on k v d
-pair-on on k v d e = sym (if_yes _ _ _ e)
-
-pub one-pair : (on : Bool) (k v : List ℕ) (d : Draft) → add_pair on (key_part k) v d ≡ add_tokens (chosen (choice on k v ∷ [])) d
-one-pair true k v d = one_on true k v d refl
-one-pair false k v d = one-off false k v d refl
-
-pub three-pairs : (on : Bool) (k v k₂ v₂ k₃ v₃ : List ℕ) (d : Draft)
-    → add_pair on (key_part k₃) v₃ (add_pair on (key_part k₂) v₂ (add_pair on (key_part k) v d)) ≡ add_tokens (chosen (choice on k v ∷ choice on k₂ v₂ ∷ choice on k₃ v₃ ∷ [])) d
-three-pairs true k v k₂ v₂ k₃ v₃ d = three-on true k v d k₂ v₂ k₃ v₃ refl
-three-pairs false k v k₂ v₂ k₃ v₃ d = three-off false k v d k₂ v₂ k₃ v₃ refl
+fragment-put o f d e = rw e refl
 
 pub one_token : (t : Token) (d : Draft) → added t.value (added (key_part t.key) d) ≡ add_tokens (t ∷ []) d
 unfolding add_tokens
@@ -111,27 +67,12 @@ module _ (h : Headers) (room : length h.items ≡ 8) (i : ℕ) where
       ap (λ (ts : List Token). add_tokens ts d) (drop-next (header_tokens h) i (header_token no_header) k ∙ ap (λ (t : Token). t ∷ drop (i + 1) (header_tokens h)) f)
       ∙ sym (tokens_append (header_token (get_or h.items i no_header) ∷ []) (drop (i + 1) (header_tokens h)) d)
 
-  header-end : i ≡ min h.count 8 → (d : Draft) → add_tokens (drop i (header_tokens h)) d ≡ d
+  pub headed-next : i < min h.count 8 → (start d e : Draft) → add_tokens (header_tokens h) start ≡ add_tokens (drop i (header_tokens h)) d
+      → e ≡ add_tokens (header_token (get_or h.items i no_header) ∷ []) d → add_tokens (header_tokens h) start ≡ add_tokens (drop (i + 1) (header_tokens h)) e
+  headed-next l start d e g f = g ∙ header-next l d ∙ ap (add_tokens (drop (i + 1) (header_tokens h))) (sym f)
+
+  pub headed-end : i ≡ min h.count 8 → (start d : Draft) → add_tokens (header_tokens h) start ≡ add_tokens (drop i (header_tokens h)) d → d ≡ add_tokens (header_tokens h) start
   unfolding add_tokens
-  header-end e d =
+  headed-end e start d g =
       let k : drop i (header_tokens h) ≡ [] = ap (λ (n : ℕ). drop n (header_tokens h)) (e ∙ sym counted) ∙ drop-length (header_tokens h) in
-      ap (λ (ts : List Token). add_tokens ts d) k
-
--- the headers from the place i on are still to be added: what the loop keeps
-pub record Headed (h : Headers) (l : List ℕ) (at i next : ℕ) (x : List ℕ) : Type 0 where
-  pub rest-is : length l ≡ 512 → add_tokens (header_tokens h) (draft l at) ≡ add_tokens (drop i (header_tokens h)) (draft x next)
-  pub same : length x ≡ length l
-
-module _ (h : Headers) (l : List ℕ) (at : ℕ) where
-  pub headed-start : Headed h l at 0 at l
-  headed-start = record { rest-is = λ e. refl; same = refl }
-
-  module _ (room : length h.items ≡ 8) (i : ℕ) where
-    pub headed-next : i < min h.count 8 → {next r : ℕ} {x y : List ℕ} → Headed h l at i next x → Adds (add_tokens (header_token (get_or h.items i no_header) ∷ [])) x next r y → Headed h l at (i + 1) r y
-    headed-next k {next} {r} {x} {y} g a = record {
-      rest-is = λ e. g.rest-is e ∙ header-next h room i k (draft x next) ∙ ap (add_tokens (drop (i + 1) (header_tokens h))) (sym (a.draft-is (g.same ∙ e)));
-      same = a.long ∙ g.same;
-    }
-
-    pub headed-end : i ≡ min h.count 8 → {next : ℕ} {x : List ℕ} → Headed h l at i next x → Adds (add_tokens (header_tokens h)) l at next x
-    headed-end k {next} {x} g = record { draft-is = λ e. sym (g.rest-is e ∙ header-end h room i k (draft x next)); long = g.same }
+      sym (g ∙ ap (λ (ts : List Token). add_tokens ts d) k)

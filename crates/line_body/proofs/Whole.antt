@@ -1,31 +1,30 @@
 -- The body as the code puts it together is the message's.
-use Rattle.std.specs.Prelude.{if◌then◌else◌}
-use Prim.Native.Nat.{ℕ, ◌+◌, ◌≤◌, ◌<◌}
+use Rattle.std.specs.Prelude.{Some, if◌then◌else◌}
+use Rattle.std.specs.Option.{option_map, option_to_list}
+use Prim.Native.Nat.{ℕ, ◌+◌}
 use mathlib.Core.Path.{◌≡◌, refl, sym, ap, ◌∙◌}
 use mathlib.Core.Bool.{Bool, true, false}
-use mathlib.Core.List.{List, [], ◌∷◌, ◌++◌}
+use mathlib.Core.List.{List, [], ◌∷◌, ◌++◌, append_assoc}
 use native.Mathlib.Omega.{arith}
-use lib.ListN.{length, take, drop, replicate, length-replicate}
-use lib.Seq.{take_at}
+use lib.ListN.{length, drop, replicate, length-replicate}
 use borrow.Author.Tests.{le-leb, lt-leb, leb-true, leb-false}
 use Rattle.octets.specs.Words.{◌≤?◌}
-use Rattle.octets.specs.Bytes.{fits, placed, front}
-use Rattle.octets.proofs.Tests.{if_yes, if_no}
-use Rattle.octets.proofs.Lists.{placed-in, length-placed}
+use Rattle.octets.specs.Bytes.{placed, front}
+use Rattle.octets.proofs.Lists.{placed-in}
 use Rattle.text.specs.Decimal.{decimal, signed_decimal}
 use Rattle.text.specs.Hex.{hex_digits}
 use Rattle.names.specs.Reserved.{key_len, key_fmt, key_s, key_ttl, key_src, key_mid, key_frag, key_sid, key_sn, key_gt}
-use Rattle.envelope.specs.Rules.{call_bytes, stream_bytes}
-use Rattle.tokens.specs.Tokens.{Token, space}
+use Rattle.envelope.specs.Rules.{call_bytes}
+use Rattle.tokens.specs.Tokens.{Token, token, space}
 use Rattle.line_groups.specs.Rules.{'p'}
 use Rattle.line.specs.Reading.{ihave}
-use Rattle.line.specs.Writing.{Choice, choice, chosen, part_text, choices_of, header_tokens, dst_token, tokens_of, body_of}
+use Rattle.line.specs.Writing.{Choice, choice, chosen, mid_text, part_text, sid_text, sn_text, gt_text, choices_of, header_tokens, dst_token, tokens_of, body_of}
 use Rattle.line.specs.declared.Line.{Line}
-use Rattle.line_draft.specs.Draft.{Draft, full_draft, draft, added, Adds}
+use Rattle.line_draft.specs.Drafts.{no_draft, full_draft, added}
+use Rattle.line_draft.specs.declared.Draft.{Draft}
 use Rattle.line_draft.proofs.Drafts.{added-fits, added_full, add-append}
-use Rattle.line_body.specs.Held.{no_body, body_held}
-use Rattle.line_body.specs.Steps.{add_tokens}
-use Rattle.line_body.specs.declared.Body.{Body}
+use Rattle.line_body.specs.Held.{body_held}
+use Rattle.line_body.specs.Steps.{key_part, add_pair, add_tokens}
 use Rattle.line_body.proofs.Drafts.{tokens_append, tokens-text}
 
 -- ---- the tokens, group by group
@@ -33,39 +32,34 @@ use Rattle.line_body.proofs.Drafts.{tokens_append, tokens-text}
 chosen-append : (a b : List Choice) → chosen a ++ chosen b ≡ chosen (a ++ b)
 unfolding chosen
 chosen-append [] b = refl
-chosen-append (c ∷ a) b = go c.on (chosen-append a b)
-  where
-    go : (t : Bool) → chosen a ++ chosen b ≡ chosen (a ++ b) → (if t then (c.what ∷ chosen a) else chosen a) ++ chosen b ≡ (if t then (c.what ∷ chosen (a ++ b)) else chosen (a ++ b))
-    go true h = ap (λ (l : List Token). c.what ∷ l) h
-    go false h = h
+chosen-append (c ∷ a) b =
+    append_assoc (option_to_list (option_map (token c.key) c.text)) (chosen a) (chosen b)
+    ∙ ap (λ (l : List Token). option_to_list (option_map (token c.key) c.text) ++ l) (chosen-append a b)
 
 choices-next : (a b : List Choice) (d : Draft) → add_tokens (chosen b) (add_tokens (chosen a) d) ≡ add_tokens (chosen (a ++ b)) d
 choices-next a b d = tokens_append (chosen a) (chosen b) d ∙ ap (λ (ts : List Token). add_tokens ts d) (chosen-append a b)
 
 module _ (m : Line) where
   abbrev payload : List Choice
-  payload = choice true key_len (decimal m.len) ∷ choice true key_fmt 'p' ∷ []
+  payload = choice key_len (Some (decimal m.len)) ∷ choice key_fmt (Some 'p') ∷ []
 
   abbrev salt : List Choice
-  salt = choice m.fields.has_salt key_s (signed_decimal m.fields.salt) ∷ []
+  salt = choice key_s (option_map signed_decimal m.fields.salt) ∷ []
 
   abbrev ttl : List Choice
-  ttl = choice m.fields.has_ttl key_ttl (decimal m.fields.ttl) ∷ []
+  ttl = choice key_ttl (option_map decimal m.fields.ttl) ∷ []
 
   abbrev src : List Choice
-  src = choice m.fields.has_src key_src (call_bytes m.fields.src) ∷ []
+  src = choice key_src (option_map call_bytes m.fields.src) ∷ []
 
   abbrev fragment : List Choice
-  fragment =
-      choice m.fields.has_fragment key_mid (hex_digits 7 m.fields.mid)
-      ∷ choice m.fields.has_fragment key_frag (part_text m.fields.index m.fields.total)
-      ∷ []
+  fragment = choice key_mid (option_map mid_text m.fields.fragment) ∷ choice key_frag (option_map part_text m.fields.fragment) ∷ []
 
   abbrev stream : List Choice
   stream =
-      choice m.fields.has_stream key_sid (stream_bytes m.fields.sid)
-      ∷ choice m.fields.has_stream key_sn (decimal m.fields.sn)
-      ∷ choice m.fields.has_stream key_gt (decimal m.fields.gt)
+      choice key_sid (option_map sid_text m.fields.stream)
+      ∷ choice key_sn (option_map sn_text m.fields.stream)
+      ∷ choice key_gt (option_map gt_text m.fields.stream)
       ∷ []
 
   all-choices : (d : Draft)
@@ -91,119 +85,52 @@ module _ (m : Line) where
       ∙ tokens-text (tokens_of m) ((ihave ++ (space ∷ [])) ++ hex_digits 7 m.fields.id) d
 
   -- group by group, as the code puts them
-  pub body-whole : (d : Draft)
+  body-whole : (d : Draft)
       → add_tokens (dst_token m ∷ []) (add_tokens (header_tokens m.fields.headers) (add_tokens (chosen stream) (add_tokens (chosen fragment) (add_tokens (chosen src) (add_tokens (chosen ttl) (add_tokens (chosen salt)
       (add_tokens (chosen payload) (added (hex_digits 7 m.fields.id) (added (ihave ++ (space ∷ [])) d))))))))) ≡ added (body_of m) d
   body-whole d = ap (λ (x : Draft). add_tokens (dst_token m ∷ []) (add_tokens (header_tokens m.fields.headers) x)) (all-choices _) ∙ all-tokens _ ∙ body-by d
 
--- ---- what the array then holds
+  payload-step : (d : Draft) → added (key_part key_fmt ++ 'p') (add_pair (key_part key_len) (decimal m.len) d) ≡ add_tokens (chosen payload) d
+  unfolding chosen add_tokens
+  payload-step d = sym (add-append (key_part key_fmt) 'p' (added (decimal m.len) (added (key_part key_len) d)))
 
-pub record Holds (w l : List ℕ) (r : ℕ) (x : List ℕ) : Type 0 where
-  pub short : length w ≤ 512
-  pub len_is : r ≡ length w
-  pub text-is : take r x ≡ w
-  pub bytes-are : x ≡ front w l
-
-module _ (w l : List ℕ) (r : ℕ) (x : List ℕ) (long : length l ≡ 512) (a : Adds (added w) l 0 r x) where
-  abbrev start : Draft
-  start = record { bytes = l; len = 0 }
-
-  told : draft x r ≡ added w start
-  unfolding draft
-  told = a.draft-is long
-
-  pub holds-long : 512 < r → 512 < length w
-  unfolding draft
-  holds-long h = go (fits w 0 l) refl
-    where
-      full : full_draft ≡ added w start
-      full = sym (if_no _ _ _ (lt-leb r 512 h)) ∙ told
-
-      go : (t : Bool) → fits w 0 l ≡ t → 512 < length w
-      go true f =
-          let k = leb-true (0 + length w) (length l) f in
-          let n : 513 ≡ 0 + length w = ap (λ (d : Draft). d.len) (full ∙ added-fits w start f) in
-          absurd (omega arith)
-      go false f = let k = leb-false (0 + length w) (length l) f in omega arith
-
-  pub holds-short : r ≤ 512 → Holds w l r x
-  unfolding draft
-  holds-short h = go (fits w 0 l) refl
-    where
-      there : record { bytes = x; len = r } ≡ added w start
-      there = sym (if_yes _ _ _ (le-leb r 512 h)) ∙ told
-
-      go : (t : Bool) → fits w 0 l ≡ t → Holds w l r x
-      go false f = let n : r ≡ 513 = ap (λ (d : Draft). d.len) (there ∙ added_full w start f) in absurd (omega arith)
-      go true f =
-          let k = leb-true (0 + length w) (length l) f in
-          let g = there ∙ added-fits w start f in
-          let n : r ≡ 0 + length w = ap (λ (d : Draft). d.len) g in
-          let z : 0 + length w ≡ length w = omega arith in
-          let b : x ≡ front w l = ap (λ (d : Draft). d.bytes) g ∙ placed-in w 0 l k ∙ ap (λ (i : ℕ). w ++ drop i l) z in
-          record {
-            short = omega arith;
-            len_is = omega arith;
-            text-is = ap (λ (i : ℕ). take i x) (n ∙ z) ∙ ap (take (length w)) b ∙ take_at w (drop (length w) l) (length w) refl;
-            bytes-are = b;
-          }
-
--- ---- the body as it is answered, and as one text that was added
-
-module _ (m : Line) {l : List ℕ} (zero-l : l ≡ replicate 512 0) {r : ℕ} {x : List ℕ} (a : Adds (added (body_of m)) l 0 r x) where
-  long-l : length l ≡ 512
-  long-l = ap length zero-l ∙ length-replicate {A = ℕ} 512 0
-
-  pub body-long : 512 < r → no_body ≡ body_held m
+  -- the body that was put into an empty draft, as it is held
+  pub held : added (body_of m) no_draft ≡ body_held m
   unfolding body_held
-  body-long h = sym (if_no _ _ _ (lt-leb (length (body_of m)) 512 (holds-long (body_of m) l r x long-l a h)))
+  held = go (length (body_of m) ≤? 512) refl
+    where
+      w : List ℕ
+      w = body_of m
 
-  pub body-short : r ≤ 512 → record { bytes = x; len = r } ≡ body_held m
-  unfolding body_held
-  body-short h =
-      let k = holds-short (body_of m) l r x long-l a h in
-      ap (λ (n : ℕ). record { bytes = x; len = n }) k.len_is
-      ∙ ap (λ (y : List ℕ). record { bytes = y; len = length (body_of m) }) (k.bytes-are ∙ ap (front (body_of m)) zero-l)
-      ∙ sym (if_yes _ _ _ (le-leb (length (body_of m)) 512 k.short))
+      blank : List ℕ
+      blank = replicate 512 0
 
-module _ (w : List ℕ) where
-  abbrev blank : List ℕ
-  blank = replicate 512 0
+      go : (t : Bool) → (length w ≤? 512) ≡ t → added w no_draft ≡ (if t then record { bytes = front w blank; len = length w } else full_draft)
+      go true f =
+          let k = leb-true (length w) 512 f in
+          let n : 0 + length w ≡ length w = omega arith in
+          let b : placed w 0 blank ≡ front w blank = placed-in w 0 blank (omega (arith, length-replicate {A = ℕ} 512 0)) ∙ ap (λ (i : ℕ). w ++ drop i blank) n in
+          added-fits w no_draft (le-leb (0 + length w) (length blank) (omega (arith, length-replicate {A = ℕ} 512 0))) ∙ (λ i. record { bytes = b i; len = n i })
+      go false f =
+          let k = leb-false (length w) 512 f in
+          added_full w no_draft (lt-leb (0 + length w) (length blank) (omega (arith, length-replicate {A = ℕ} 512 0)))
 
-  abbrev start-blank : Draft
-  start-blank = record { bytes = blank; len = 0 }
-
-  front-placed : length w ≤ 512 → placed w 0 blank ≡ front w blank
-  front-placed h =
-      let n : 0 + length w ≡ length w = omega arith in
-      placed-in w 0 blank (omega (arith, length-replicate {A = ℕ} 512 0)) ∙ ap (λ (i : ℕ). w ++ drop i blank) n
-
-  held-short : length w ≤ 512 → draft (front w blank) (length w) ≡ added w (draft blank 0)
-  unfolding draft
-  held-short h =
-      let n : 0 + length w ≡ length w = omega arith in
-      if_yes _ _ _ (le-leb (length w) 512 h)
-      ∙ sym (added-fits w start-blank (le-leb (0 + length w) (length blank) (omega (arith, length-replicate {A = ℕ} 512 0))) ∙ (λ i. record { bytes = front-placed h i; len = n i }))
-
-  held-long : 512 < length w → draft blank 513 ≡ added w (draft blank 0)
-  unfolding draft
-  held-long h = sym (added_full w start-blank (lt-leb (0 + length w) (length blank) (omega (arith, length-replicate {A = ℕ} 512 0))))
-
-pub held-adds : (m : Line) (b : Body) → b ≡ body_held m → Adds (added (body_of m)) (replicate 512 0) 0 b.len b.bytes
-unfolding body_held
-held-adds m b e = go (length (body_of m) ≤? 512) refl
-  where
-    go : (t : Bool) → (length (body_of m) ≤? 512) ≡ t → Adds (added (body_of m)) (replicate 512 0) 0 b.len b.bytes
-    go true f =
-        let k = leb-true (length (body_of m)) 512 f in
-        let g = e ∙ if_yes _ _ _ f in
-        record {
-          draft-is = λ h. ap (λ (y : Body). draft y.bytes y.len) g ∙ held-short (body_of m) k;
-          long = ap (λ (y : Body). length y.bytes) g ∙ ap length (sym (front-placed (body_of m) k)) ∙ length-placed (body_of m) 0 (blank (body_of m));
-        }
-    go false f =
-        let g = e ∙ if_no _ _ _ f in
-        record {
-          draft-is = λ h. ap (λ (y : Body). draft y.bytes y.len) g ∙ held-long (body_of m) (leb-false (length (body_of m)) 512 f);
-          long = ap (λ (y : Body). length y.bytes) g;
-        }
+  pub printed : (a b c d e f g h i j k : Draft) → a ≡ added (ihave ++ (space ∷ [])) no_draft → b ≡ added (hex_digits 7 m.fields.id) a
+      → c ≡ add_pair (key_part key_len) (decimal m.len) b → d ≡ added (key_part key_fmt ++ 'p') c
+      → e ≡ add_tokens (chosen salt) d → f ≡ add_tokens (chosen ttl) e
+      → g ≡ add_tokens (chosen src) f → h ≡ add_tokens (chosen fragment) g → i ≡ add_tokens (chosen stream) h
+      → j ≡ add_tokens (header_tokens m.fields.headers) i → k ≡ add_tokens (dst_token m ∷ []) j → k ≡ body_held m
+  printed a b c d e f g h i j k is-a is_b is_c is-d is-e is_f is-g is-h is-i is-j is-k =
+      is-k
+      ∙ ap (add_tokens (dst_token m ∷ [])) (is-j
+      ∙ ap (add_tokens (header_tokens m.fields.headers)) (is-i
+      ∙ ap (add_tokens (chosen stream)) (is-h
+      ∙ ap (add_tokens (chosen fragment)) (is-g
+      ∙ ap (add_tokens (chosen src)) (is_f
+      ∙ ap (add_tokens (chosen ttl)) (is-e
+      ∙ ap (add_tokens (chosen salt)) (is-d
+      ∙ ap (added (key_part key_fmt ++ 'p')) is_c
+      ∙ payload-step b
+      ∙ ap (add_tokens (chosen payload)) (is_b ∙ ap (added (hex_digits 7 m.fields.id)) is-a))))))))
+      ∙ body-whole no_draft
+      ∙ held

@@ -4,12 +4,9 @@ use Rattle.octets.specs.Words.{◌≤?◌}
 use Rattle.octets.specs.Bytes.{front}
 use Rattle.line.specs.Writing.{body_of}
 use Rattle.line.specs.declared.Line.{Line}
-use Rattle.line_body.specs.declared.Body.{Body}
+use Rattle.line_draft.specs.Drafts.{full_draft}
+use Rattle.line_draft.specs.declared.Draft.{Draft}
 
--- a body that is too long for a line: a length past the array's end
-abbrev pub no_body : Body
-no_body = record { bytes = replicate 512 0; len = 513 }
-
--- the bytes, then zeros
-unfoldable pub body_held : Line → Body
-body_held m = if length (body_of m) ≤? 512 then record { bytes = front (body_of m) (replicate 512 0); len = length (body_of m) } else no_body
+-- the bytes, then zeros; a body that is too long for a line is a full draft
+unfoldable pub body_held : Line → Draft
+body_held m = if length (body_of m) ≤? 512 then record { bytes = front (body_of m) (replicate 512 0); len = length (body_of m) } else full_draft

@@ -1,15 +1,16 @@
 -- What the private functions promise one another; no public promise speaks of it.
-use Rattle.std.specs.Prelude.{ℕ, Bool, List, [], ◌∷◌, ◌++◌, if◌then◌else◌}
+use Rattle.std.specs.Prelude.{ℕ, List, [], ◌∷◌, ◌++◌}
 use Rattle.tokens.specs.Tokens.{Token, space, equals}
-use Rattle.line_draft.specs.Draft.{Draft, added}
+use Rattle.line_draft.specs.Drafts.{added}
+use Rattle.line_draft.specs.declared.Draft.{Draft}
 
 -- a space, a key and `=`
 abbrev pub key_part : List ℕ → List ℕ
 key_part k = space ∷ (k ++ (equals ∷ []))
 
--- a key and a value more, where the flag is set
-abbrev pub add_pair : Bool → List ℕ → List ℕ → Draft → Draft
-add_pair on k v d = if on then added v (added k d) else d
+-- a key and a value more
+abbrev pub add_pair : List ℕ → List ℕ → Draft → Draft
+add_pair k v d = added v (added k d)
 
 -- tokens more
 unfoldable pub add_tokens : List Token → Draft → Draft

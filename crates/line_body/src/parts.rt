@@ -1,124 +1,108 @@
-// The tokens of a line that is written. Each is put behind the last, and the place behind it is answered.
-ghost use Rattle.std.specs.Prelude.{[], ◌∷◌};
+// The tokens of a line that is written. Each is put behind the last; those of a field that is not there are none.
+ghost use Rattle.std.specs.Prelude.{◌≡◌, [], ◌∷◌};
+ghost use Rattle.std.specs.Option.{option_map};
 ghost use Rattle.text.specs.Decimal.{decimal, signed_decimal};
-ghost use Rattle.text.specs.Hex.{hex_digits};
-ghost use Rattle.names.specs.Reserved.{key_s, key_dst, key_src, key_mid, key_frag, key_sid, key_sn, key_gt};
-ghost use Rattle.envelope.specs.Rules.{call_bytes, address_bytes, stream_bytes};
+ghost use Rattle.names.specs.Reserved.{key_s, key_dst, key_ttl, key_src, key_mid, key_frag, key_sid, key_sn, key_gt};
+ghost use Rattle.envelope.specs.Rules.{call_bytes, address_bytes};
 ghost use Rattle.tokens.specs.Tokens.{token};
-ghost use Rattle.line.specs.Writing.{choice, chosen, part_text, header_token, header_tokens};
-ghost use Rattle.line_draft.specs.Draft.{Adds};
+ghost use Rattle.line.specs.Writing.{choice, chosen, mid_text, part_text, sid_text, sn_text, gt_text, header_token, header_tokens};
 ghost use Rattle.line_body.specs.Steps.{add_pair, add_tokens};
 
-use envelope::{AddressText, CallText, StreamText};
+use envelope::{AddressText, CallText, Fragment, Stream};
 use headers::{Header, Headers};
+use line_draft::Draft;
 
-// ---- a key and its value, where the flag is set; the key has its space and its `=`
+// ---- a key and its value; the key has its space and its `=`
 
-fn text(on: bool, key: &[u8], value: &[u8], out: &mut [u8; 512], at: usize) -> usize
-    ensures { Adds (add_pair on key.now value.now) out.old at result out.new }
+fn text(line: &mut Draft, key: &[u8], value: &[u8])
+    ensures { line.new ≡ add_pair key.now value.now line.old }
 {
-    if !on {
-        return at;
-    }
-    let a = line_draft::put(key, out, at);
-    line_draft::put(value, out, a)
+    line.put(key);
+    line.put(value);
 }
 
-pub(crate) fn number(on: bool, key: &[u8], v: u64, out: &mut [u8; 512], at: usize) -> usize
-    ensures { Adds (add_pair on key.now (decimal v)) out.old at result out.new }
+pub(crate) fn number(line: &mut Draft, key: &[u8], v: u64)
+    ensures { line.new ≡ add_pair key.now (decimal v) line.old }
 {
-    if !on {
-        return at;
-    }
-    let a = line_draft::put(key, out, at);
-    line_draft::put_number(v, out, a)
+    line.put(key);
+    line.put_number(v);
 }
 
 // ---- the tokens
 
-pub(crate) fn salt(on: bool, salt: i64, out: &mut [u8; 512], at: usize) -> usize
-    ensures { Adds (add_tokens (chosen (choice on key_s (signed_decimal salt) ∷ []))) out.old at result out.new }
+#[tactic(auto, unfolding(line::specs::Writing::chosen, crate::specs::Steps::add_tokens))]
+pub(crate) fn salt(line: &mut Draft, salt: Option<i64>)
+    ensures { line.new ≡ add_tokens (chosen (choice key_s (option_map signed_decimal salt) ∷ [])) line.old }
 {
-    if !on {
-        return at;
+    let Some(salt) = salt else {
+        return;
+    };
+    line.put(b" s=");
+    line.put_signed(salt);
+}
+
+#[tactic(auto, unfolding(line::specs::Writing::chosen, crate::specs::Steps::add_tokens))]
+pub(crate) fn ttl(line: &mut Draft, ttl: Option<u32>)
+    ensures { line.new ≡ add_tokens (chosen (choice key_ttl (option_map decimal ttl) ∷ [])) line.old }
+{
+    let Some(ttl) = ttl else {
+        return;
+    };
+    number(line, b" ttl=", u64::from(ttl));
+}
+
+#[tactic(auto, unfolding(line::specs::Writing::chosen, crate::specs::Steps::add_tokens))]
+pub(crate) fn src(line: &mut Draft, src: Option<CallText>)
+    ensures { line.new ≡ add_tokens (chosen (choice key_src (option_map call_bytes src) ∷ [])) line.old }
+{
+    let Some(t) = src else {
+        return;
+    };
+    text(line, b" src=", lengths::part(&t.bytes, t.len));
+}
+
+#[tactic(auto, unfolding(line::specs::Writing::chosen, crate::specs::Steps::add_tokens))]
+pub(crate) fn fragment(line: &mut Draft, fragment: Option<Fragment>)
+    ensures { line.new ≡ add_tokens (chosen (choice key_mid (option_map mid_text fragment) ∷ choice key_frag (option_map part_text fragment) ∷ [])) line.old }
+{
+    let Some(f) = fragment else {
+        return;
+    };
+    line.put(b" mid=");
+    line.put_id(f.mid);
+    number(line, b" frag=", u64::from(f.index));
+    number(line, b"/", u64::from(f.total));
+}
+
+#[tactic(auto, unfolding(line::specs::Writing::chosen, crate::specs::Steps::add_tokens))]
+pub(crate) fn stream(line: &mut Draft, stream: Option<Stream>)
+    ensures { line.new ≡ add_tokens (chosen (choice key_sid (option_map sid_text stream) ∷ choice key_sn (option_map sn_text stream) ∷ choice key_gt (option_map gt_text stream) ∷ [])) line.old }
+{
+    let Some(s) = stream else {
+        return;
+    };
+    text(line, b" sid=", lengths::part(&s.sid.bytes, s.sid.len));
+    number(line, b" sn=", u64::from(s.sn));
+    number(line, b" gt=", u64::from(s.gt));
+}
+
+fn header(line: &mut Draft, h: Header)
+    ensures { line.new ≡ add_tokens (header_token h ∷ []) line.old }
+{
+    text(line, b" ", lengths::part(&h.key, h.key_len));
+    text(line, b"=", lengths::part(&h.value, h.value_len));
+}
+
+pub(crate) fn headers(line: &mut Draft, h: Headers)
+    ensures { line.new ≡ add_tokens (header_tokens h) line.old }
+{
+    for i in 0..h.count.min(8) {
+        header(line, h.items[i]);
     }
-    let a = line_draft::put(b" s=", out, at);
-    line_draft::put_signed(salt, out, a)
 }
 
-pub(crate) fn src(on: bool, t: CallText, out: &mut [u8; 512], at: usize) -> usize
-    ensures { Adds (add_tokens (chosen (choice on key_src (call_bytes t) ∷ []))) out.old at result out.new }
+pub(crate) fn dst(line: &mut Draft, t: AddressText)
+    ensures { line.new ≡ add_tokens (token key_dst (address_bytes t) ∷ []) line.old }
 {
-    let n = t.len;
-    let bytes = t.bytes;
-    text(on, b" src=", lengths::part(&bytes, n), out, at)
-}
-
-pub(crate) fn fragment(
-    on: bool,
-    mid: u32,
-    index: u16,
-    total: u16,
-    out: &mut [u8; 512],
-    at: usize,
-) -> usize
-    ensures { Adds (add_tokens (chosen (choice on key_mid (hex_digits 7 mid) ∷ choice on key_frag (part_text index total) ∷ []))) out.old at result out.new }
-{
-    if !on {
-        return at;
-    }
-    let a = line_draft::put(b" mid=", out, at);
-    let b = line_draft::put_id(mid, out, a);
-    let c = number(true, b" frag=", index as u64, out, b);
-    number(true, b"/", total as u64, out, c)
-}
-
-pub(crate) fn stream(
-    on: bool,
-    sid: StreamText,
-    sn: u32,
-    gt: u32,
-    out: &mut [u8; 512],
-    at: usize,
-) -> usize
-    ensures { Adds (add_tokens (chosen (choice on key_sid (stream_bytes sid) ∷ choice on key_sn (decimal sn) ∷ choice on key_gt (decimal gt) ∷ []))) out.old at result out.new }
-{
-    let n = sid.len;
-    let bytes = sid.bytes;
-    let a = text(on, b" sid=", lengths::part(&bytes, n), out, at);
-    let b = number(on, b" sn=", sn as u64, out, a);
-    number(on, b" gt=", gt as u64, out, b)
-}
-
-fn header(h: Header, out: &mut [u8; 512], at: usize) -> usize
-    ensures { Adds (add_tokens (header_token h ∷ [])) out.old at result out.new }
-{
-    let n = h.key_len;
-    let m = h.value_len;
-    let key = h.key;
-    let value = h.value;
-    let a = text(true, b" ", lengths::part(&key, n), out, at);
-    text(true, b"=", lengths::part(&value, m), out, a)
-}
-
-pub(crate) fn headers(h: Headers, out: &mut [u8; 512], at: usize) -> usize
-    ensures { Adds (add_tokens (header_tokens h)) out.old at result out.new }
-{
-    let n = lengths::at_most(h.count, 8);
-    let mut next = at;
-    let mut i = 0;
-    while i < n {
-        let a = h.items[i];
-        next = header(a, out, next);
-        i += 1;
-    }
-    next
-}
-
-pub(crate) fn dst(t: AddressText, out: &mut [u8; 512], at: usize) -> usize
-    ensures { Adds (add_tokens (token key_dst (address_bytes t) ∷ [])) out.old at result out.new }
-{
-    let n = t.len;
-    let bytes = t.bytes;
-    text(true, b" dst=", lengths::part(&bytes, n), out, at)
+    text(line, b" dst=", lengths::part(&t.bytes, t.len));
 }

@@ -1,2 +1,2 @@
 -- A line as it is put together.
-pub mod Draft
+pub mod Drafts

@@ -1,11 +1,11 @@
 -- The groups of a line's keys together: the first that is not good decides, and the fields are those that the tokens say.
-use Rattle.std.specs.Prelude.{if◌then◌else◌}
+use Rattle.std.specs.Prelude.{Option, Some, None, if◌then◌else◌}
+use Rattle.std.specs.Option.{is_some, option_map}
 use Prim.Native.Nat.{ℕ, ◌<◌}
 use mathlib.Core.Path.{◌≡◌, refl, ap, sym, ◌∙◌}
-use mathlib.Core.Bool.{true, false}
+use mathlib.Core.Bool.{Bool, true, false}
 use mathlib.Core.List.{List, [], map}
 use lib.ListN.{get_or}
-use lib.IntN.{ℤ}
 use native.Mathlib.Omega.{arith}
 use Rattle.octets.specs.Words.{◌and◌}
 use Rattle.octets.proofs.Tests.{if_yes, if_no, and_both, and-not-left, and-not-right}
@@ -13,58 +13,50 @@ use Rattle.text.specs.Decimal.{number, signed}
 use Rattle.text.specs.Hex.{hex_value}
 use Rattle.names.specs.Reserved.{reserved_keys, key_len, key_fmt, key_s, key_clen, key_dst, key_chk, key_ttl, key_src, key_mid, key_frag, key_sid, key_sn, key_gt}
 use Rattle.headers.specs.declared.Headers.{Headers}
-use Rattle.envelope.specs.Texts.{call_text, address_text, stream_text}
-use Rattle.envelope.specs.declared.CallText.{CallText}
-use Rattle.envelope.specs.declared.AddressText.{AddressText}
-use Rattle.envelope.specs.declared.StreamText.{StreamText}
+use Rattle.envelope.specs.declared.Fragment.{Fragment}
+use Rattle.envelope.specs.declared.Stream.{Stream}
 use Rattle.envelope.specs.declared.Envelope.{Envelope}
-use Rattle.tokens.specs.Cuts.{before, after}
-use Rattle.tokens.specs.Tokens.{Token, tokens, words, present, value, others}
-use Rattle.tokens.proofs.Lookups.{value-if}
-use Rattle.line_values.specs.Values.{slash}
-use Rattle.line_values.proofs.Picks.{picked-good, picked}
+use Rattle.tokens.specs.Tokens.{Token, tokens, words, present, value, given, others}
+use Rattle.tokens.proofs.Lookups.{value-missing}
+use Rattle.line_values.specs.Values.{text_of}
 use Rattle.line_groups.specs.Rules.{deflated, payload_good, singles_good, fragment_good, stream_good}
-use Rattle.line_groups.specs.Answers.{len_of, no_payload, payload_by, no_singles, singles_by, no_fragment, fragment_by, no_stream, stream_by}
+use Rattle.line_groups.specs.Answers.{len_of, fragment_at, stream_at, payload_by, singles_by, fragment_by, stream_by}
 use Rattle.line_groups.specs.declared.Payload.{Payload}
 use Rattle.line_groups.specs.declared.Singles.{Singles}
-use Rattle.line_groups.specs.declared.Fragment.{Fragment}
-use Rattle.line_groups.specs.declared.Stream.{Stream}
 use Rattle.line_places.specs.Headers.{headers_of}
-use Rattle.line_places.specs.Places.{place_from, places_good, no_places, places_of}
+use Rattle.line_places.specs.Places.{place_from, places_good, places_of}
 use Rattle.line_places.specs.declared.Place.{Place}
 use Rattle.line_places.specs.declared.Places.{Places}
-use Rattle.line_places.proofs.Found.{slot-given, slot-value}
-use Rattle.line_fields.specs.Fields.{fields_of, groups_good, no_values, good_values, values_of}
-use Rattle.line_fields.specs.Steps.{slot_given, slot_value, gather_of}
-use Rattle.line_fields.specs.declared.Values.{Values}
+use Rattle.line_places.proofs.Found.{slot-value}
+use Rattle.line_fields.specs.Fields.{fields_of, groups_good, good_values, values_of}
+use Rattle.line_fields.specs.Steps.{slot_value, gather_of}
 
--- the fields as the code puts them together: the salt as it was stored, and the texts of `src`, `sid` and `dst`
-module _ (id : ℕ) (t : List ℕ) (slots : List Place) (q : Singles) (f : Fragment) (m : Stream) (h : Headers) where
-  pub put-together : (salt : ℤ) → salt ≡ q.salt → (v : List ℕ) (src : CallText) → v ≡ slot_value t slots 7 → src ≡ call_text v
-      → (w : List ℕ) (sid : StreamText) → w ≡ slot_value t slots 10 → sid ≡ stream_text w
-      → (u : List ℕ) (dst : AddressText) → u ≡ slot_value t slots 4 → dst ≡ address_text u
-      → ◌≡◌ {A = Envelope} (record {
-        id = id;
-        has_salt = q.has_salt;
-        salt = salt;
-        has_ttl = q.has_ttl;
-        ttl = q.ttl;
-        has_src = slot_given slots 7;
-        src = src;
-        has_fragment = f.given;
-        mid = f.mid;
-        index = f.index;
-        total = f.total;
-        has_stream = m.given;
-        sid = sid;
-        sn = m.sn;
-        gt = m.gt;
-        headers = h;
-        dst = dst;
-      }) (gather_of id t slots q f m h)
-  unfolding gather_of
-  put-together salt is-salt v src is-v is-src w sid is-w is-sid u dst is-u is-dst =
-      rw (is-salt, is-src ∙ ap call_text is-v, is-sid ∙ ap stream_text is-w, is-dst ∙ ap address_text is-u)
+-- ---- a choice, told from what was chosen
+
+pub chosen : {A : Type 0} (b : Bool) (a r : A) → (if b then Some a else None) ≡ Some r → (b ≡ true) × (a ≡ r)
+chosen true a r e = (refl, cc)
+chosen false a r e = cc
+
+pub refused : {A : Type 0} (b : Bool) (a : A) → (if b then Some a else None) ≡ None → b ≡ false
+refused true a e = cc
+refused false a e = refl
+
+-- ---- a value that may be missing
+
+module _ (k : List ℕ) (ts : List Token) where
+  pub given-some : is_some (given k ts) ≡ present k ts
+  given-some = go (present k ts)
+    where
+      go : (b : Bool) → is_some (if b then Some (value k ts) else None) ≡ b
+      go true = refl
+      go false = refl
+
+  pub given-text : text_of (given k ts) ≡ value k ts
+  given-text = go (present k ts) refl
+    where
+      go : (b : Bool) → present k ts ≡ b → text_of (if b then Some (value k ts) else None) ≡ value k ts
+      go true e = refl
+      go false e = sym (value-missing k ts e)
 
 module _ (t : List ℕ) where
   abbrev ts : List Token
@@ -73,162 +65,111 @@ module _ (t : List ℕ) where
   -- ---- what each group answers where it is good
 
   abbrev payload-all : Payload
-  payload-all = record { good = true; len = len_of ts; deflated = deflated ts }
+  payload-all = record { len = len_of ts; deflated = deflated ts }
 
   abbrev singles-all : Singles
-  singles-all = record {
-    good = true;
-    has_salt = present key_s ts;
-    salt = signed (value key_s ts);
-    has_ttl = present key_ttl ts;
-    ttl = number (value key_ttl ts);
-    has_chk = present key_chk ts;
-    chk = hex_value (value key_chk ts);
-  }
+  singles-all = record { salt = option_map signed (given key_s ts); ttl = option_map number (given key_ttl ts); chk = option_map hex_value (given key_chk ts) }
 
-  abbrev fragment-all : Fragment
-  fragment-all = record {
-    good = true;
-    given = present key_mid ts;
-    mid = hex_value (value key_mid ts);
-    index = number (before slash (value key_frag ts));
-    total = number (after slash (value key_frag ts));
-  }
+  abbrev fragment-all : Option Fragment
+  fragment-all = option_map (λ m. fragment_at m (value key_frag ts)) (given key_mid ts)
 
-  abbrev stream-all : Stream
-  stream-all = record { good = true; given = present key_sid ts; sn = number (value key_sn ts); gt = number (value key_gt ts) }
+  abbrev stream-all : Option Stream
+  stream-all = option_map (λ s. stream_at s (value key_sn ts) (value key_gt ts)) (given key_sid ts)
 
-  module _ (slots : List Place) (e : slots ≡ map (place_from 0 (words t)) reserved_keys) where
-    module _ (i : ℕ) (l : i < 13) (k : List ℕ) (is_key : get_or reserved_keys i [] ≡ k) where
-      g : slot_given slots i ≡ present k ts
-      g = slot-given t k slots e i l is_key
+  module _ (slots : List (Option Place)) (e : slots ≡ map (place_from 0 (words t)) reserved_keys) where
+    v : (i : ℕ) → i < 13 → (k : List ℕ) → get_or reserved_keys i [] ≡ k → slot_value t slots i ≡ given k ts
+    v i l k is_key = slot-value t k slots e i l is_key
 
-      v : slot_value t slots i ≡ value k ts
-      v = slot-value t k slots e i l is_key
+    payload-is : payload_by (slot_value t slots 0) (slot_value t slots 1) (slot_value t slots 3) ≡ (if payload_good ts then Some payload-all else None)
+    unfolding reserved_keys payload_by payload_good
+    payload-is =
+        rw (v 0 (omega arith) key_len refl, v 1 (omega arith) key_fmt refl, v 3 (omega arith) key_clen refl)
+        (rw (given-text key_len ts, given-text key_fmt ts, given-some key_clen ts, given-text key_clen ts) refl)
 
-    module _ (p : Payload) (is-p : p ≡ payload_by (slot_value t slots 0) (slot_value t slots 1) (slot_given slots 3) (slot_value t slots 3)) where
-      p-by : p ≡ payload_by (value key_len ts) (value key_fmt ts) (present key_clen ts) (value key_clen ts)
-      unfolding reserved_keys
-      p-by = is-p ∙ rw (v 0 (omega arith) key_len refl, v 1 (omega arith) key_fmt refl, g 3 (omega arith) key_clen refl, v 3 (omega arith) key_clen refl)
+    singles-are : singles_by (slot_value t slots 2) (slot_value t slots 6) (slot_value t slots 5) ≡ (if singles_good ts then Some singles-all else None)
+    unfolding reserved_keys singles_by singles_good
+    singles-are =
+        rw (v 2 (omega arith) key_s refl, v 6 (omega arith) key_ttl refl, v 5 (omega arith) key_chk refl)
+        (rw (given-some key_s ts, given-text key_s ts, given-some key_ttl ts, given-text key_ttl ts, given-some key_chk ts, given-text key_chk ts) refl)
 
-      pub p-good : p.good ≡ payload_good ts
-      unfolding payload_by payload_good
-      p-good = picked-good (λ (x : Payload). x.good) (payload_good ts) payload-all no_payload p refl refl p-by
+    fragment-is : fragment_by (slot_value t slots 8) (slot_value t slots 9) ≡ (if fragment_good ts then Some fragment-all else None)
+    unfolding reserved_keys fragment_by fragment_good
+    fragment-is =
+        rw (v 8 (omega arith) key_mid refl, v 9 (omega arith) key_frag refl)
+        (rw (given-some key_mid ts, given-text key_mid ts, given-some key_frag ts, given-text key_frag ts) refl)
 
-      pub p-is : p.good ≡ true → p ≡ payload-all
-      unfolding payload_by payload_good
-      p-is = picked (λ (x : Payload). x.good) (payload_good ts) payload-all no_payload p refl refl p-by
+    stream-is : stream_by (slot_value t slots 10) (slot_value t slots 11) (slot_value t slots 12) ≡ (if stream_good ts then Some stream-all else None)
+    unfolding reserved_keys stream_by stream_good
+    stream-is =
+        rw (v 10 (omega arith) key_sid refl, v 11 (omega arith) key_sn refl, v 12 (omega arith) key_gt refl)
+        (rw (given-some key_sid ts, given-some key_sn ts, given-text key_sn ts, given-some key_gt ts, given-text key_gt ts) refl)
 
-    module _ (q : Singles) (is-q : q ≡ singles_by (slot_given slots 2) (slot_value t slots 2) (slot_given slots 6) (slot_value t slots 6) (slot_given slots 5) (slot_value t slots 5)) where
-      q-by : q ≡ (if singles_good ts then singles-all else no_singles)
-      unfolding reserved_keys singles_by singles_good
-      q-by =
-          is-q
-          ∙ rw (g 2 (omega arith) key_s refl, v 2 (omega arith) key_s refl, g 6 (omega arith) key_ttl refl, v 6 (omega arith) key_ttl refl, g 5 (omega arith) key_chk refl, v 5 (omega arith) key_chk refl)
-          (rw (value-if key_s ts, value-if key_ttl ts, value-if key_chk ts))
-
-      pub q-good : q.good ≡ singles_good ts
-      q-good = picked-good (λ (x : Singles). x.good) (singles_good ts) singles-all no_singles q refl refl q-by
-
-      pub q-is : q.good ≡ true → q ≡ singles-all
-      q-is = picked (λ (x : Singles). x.good) (singles_good ts) singles-all no_singles q refl refl q-by
-
-    module _ (f : Fragment) (is_f : f ≡ fragment_by (slot_given slots 8) (slot_value t slots 8) (slot_given slots 9) (slot_value t slots 9)) where
-      f-by : f ≡ (if fragment_good ts then fragment-all else no_fragment false)
-      unfolding reserved_keys fragment_by fragment_good
-      f-by =
-          is_f
-          ∙ rw (g 8 (omega arith) key_mid refl, v 8 (omega arith) key_mid refl, g 9 (omega arith) key_frag refl, v 9 (omega arith) key_frag refl)
-          (rw (value-if key_mid ts, value-if key_frag ts))
-
-      pub f-good : f.good ≡ fragment_good ts
-      f-good = picked-good (λ (x : Fragment). x.good) (fragment_good ts) fragment-all (no_fragment false) f refl refl f-by
-
-      pub f-is : f.good ≡ true → f ≡ fragment-all
-      f-is = picked (λ (x : Fragment). x.good) (fragment_good ts) fragment-all (no_fragment false) f refl refl f-by
-
-    module _ (m : Stream) (is_m : m ≡ stream_by (slot_given slots 10) (slot_given slots 11) (slot_value t slots 11) (slot_given slots 12) (slot_value t slots 12)) where
-      m-by : m ≡ (if stream_good ts then stream-all else no_stream false)
-      unfolding reserved_keys stream_by stream_good
-      m-by =
-          is_m
-          ∙ rw (g 10 (omega arith) key_sid refl, g 11 (omega arith) key_sn refl, v 11 (omega arith) key_sn refl, g 12 (omega arith) key_gt refl, v 12 (omega arith) key_gt refl)
-          (rw (value-if key_sn ts, value-if key_gt ts))
-
-      pub m-good : m.good ≡ stream_good ts
-      m-good = picked-good (λ (x : Stream). x.good) (stream_good ts) stream-all (no_stream false) m refl refl m-by
-
-      pub m-is : m.good ≡ true → m ≡ stream-all
-      m-is = picked (λ (x : Stream). x.good) (stream_good ts) stream-all (no_stream false) m refl refl m-by
-
-    texts : (id : ℕ) (q : Singles) (f : Fragment) (m : Stream) (h : Headers) → q ≡ singles-all → f ≡ fragment-all → m ≡ stream-all → h ≡ headers_of (others ts)
-        → gather_of id t slots q f m h ≡ fields_of id ts
+    texts : (id : ℕ) (h : Headers) → h ≡ headers_of (others ts) → gather_of id t slots singles-all fragment-all stream-all h ≡ fields_of id ts
     unfolding reserved_keys gather_of fields_of
-    texts id q f m h is-q is_f is_m is-h =
-        rw (is-q, is_f, is_m, is-h, g 7 (omega arith) key_src refl, v 7 (omega arith) key_src refl, v 10 (omega arith) key_sid refl, v 4 (omega arith) key_dst refl)
+    texts id h is-h = rw (is-h, v 7 (omega arith) key_src refl, v 4 (omega arith) key_dst refl) (rw (given-text key_dst ts) refl)
 
   -- ---- all groups
 
   module _ (id : ℕ) where
-    no-values : places_good t and groups_good ts ≡ false → (r : Values) → r ≡ no_values → r ≡ values_of id t
+    no-values : places_good t and groups_good ts ≡ false → None ≡ values_of id t
     unfolding values_of
-    no-values e r n = n ∙ sym (if_no _ _ _ e)
+    no-values e = sym (if_no _ _ _ e)
 
-    module _ (a : Places) (is-a : a ≡ places_of t) where
-      abbrev places-all : Places
-      places-all = record { good = true; slots = map (place_from 0 (words t)) reserved_keys; headers = headers_of (others ts) }
+    pub values-places : places_of t ≡ None → None ≡ values_of id t
+    unfolding places_of
+    values-places e = no-values (and-not-left _ _ (refused _ _ e))
 
-      a-good : a.good ≡ places_good t
-      unfolding places_of no_places
-      a-good = picked-good (λ (x : Places). x.good) (places_good t) places-all no_places a refl refl is-a
+    module _ (a : Places) (is-a : places_of t ≡ Some a) where
+      abbrev slots : List (Option Place)
+      slots = a.slots
 
-      a-is : a.good ≡ true → a ≡ places-all
-      unfolding places_of no_places
-      a-is = picked (λ (x : Places). x.good) (places_good t) places-all no_places a refl refl is-a
+      places-told : (places_good t ≡ true) × (record { slots = map (place_from 0 (words t)) reserved_keys; headers = headers_of (others ts) } ≡ a)
+      unfolding places_of
+      places-told = chosen _ _ _ is-a
 
-      pub values-places : a.good ≡ false → (r : Values) → r ≡ no_values → r ≡ values_of id t
-      values-places e = no-values (and-not-left _ _ (sym a-good ∙ e))
+      slots-are : slots ≡ map (place_from 0 (words t)) reserved_keys
+      slots-are = sym (ap (λ (x : Places). x.slots) places-told.1)
 
-      module _ (good-a : a.good ≡ true) where
-        slots-are : a.slots ≡ map (place_from 0 (words t)) reserved_keys
-        slots-are = ap (λ (x : Places). x.slots) (a-is good-a)
+      pub values-payload : payload_by (slot_value t slots 0) (slot_value t slots 1) (slot_value t slots 3) ≡ None → None ≡ values_of id t
+      unfolding groups_good
+      values-payload e = no-values (and-not-right (places_good t) _ (and-not-left _ _ (refused _ _ (sym (payload-is slots slots-are) ∙ e))))
 
-        module _ (p : Payload) (is-p : p ≡ payload_by (slot_value t a.slots 0) (slot_value t a.slots 1) (slot_given a.slots 3) (slot_value t a.slots 3)) where
-          pub values-payload : p.good ≡ false → (r : Values) → r ≡ no_values → r ≡ values_of id t
+      module _ (p : Payload) (is-p : payload_by (slot_value t slots 0) (slot_value t slots 1) (slot_value t slots 3) ≡ Some p) where
+        p-told : (payload_good ts ≡ true) × (payload-all ≡ p)
+        p-told = chosen _ _ _ (sym (payload-is slots slots-are) ∙ is-p)
+
+        pub values-singles : singles_by (slot_value t slots 2) (slot_value t slots 6) (slot_value t slots 5) ≡ None → None ≡ values_of id t
+        unfolding groups_good
+        values-singles e = no-values (and-not-right (places_good t) _ (and-not-right (payload_good ts) _ (and-not-left _ _ (refused _ _ (sym (singles-are slots slots-are) ∙ e)))))
+
+        module _ (q : Singles) (is-q : singles_by (slot_value t slots 2) (slot_value t slots 6) (slot_value t slots 5) ≡ Some q) where
+          q-told : (singles_good ts ≡ true) × (singles-all ≡ q)
+          q-told = chosen _ _ _ (sym (singles-are slots slots-are) ∙ is-q)
+
+          pub values-fragment : fragment_by (slot_value t slots 8) (slot_value t slots 9) ≡ None → None ≡ values_of id t
           unfolding groups_good
-          values-payload e = no-values (and-not-right (places_good t) _ (and-not-left _ _ (sym (p-good a.slots slots-are p is-p) ∙ e)))
+          values-fragment e =
+              no-values (and-not-right (places_good t) _ (and-not-right (payload_good ts) _ (and-not-right (singles_good ts) _ (and-not-left _ _ (refused _ _ (sym (fragment-is slots slots-are) ∙ e))))))
 
-          module _ (good-p : p.good ≡ true)
-              (q : Singles) (is-q : q ≡ singles_by (slot_given a.slots 2) (slot_value t a.slots 2) (slot_given a.slots 6) (slot_value t a.slots 6) (slot_given a.slots 5) (slot_value t a.slots 5)) where
-            pub values-singles : q.good ≡ false → (r : Values) → r ≡ no_values → r ≡ values_of id t
+          module _ (f : Option Fragment) (is_f : fragment_by (slot_value t slots 8) (slot_value t slots 9) ≡ Some f) where
+            f-told : (fragment_good ts ≡ true) × (fragment-all ≡ f)
+            f-told = chosen _ _ _ (sym (fragment-is slots slots-are) ∙ is_f)
+
+            pub values-stream : stream_by (slot_value t slots 10) (slot_value t slots 11) (slot_value t slots 12) ≡ None → None ≡ values_of id t
             unfolding groups_good
-            values-singles e = no-values (and-not-right (places_good t) _ (and-not-right (payload_good ts) _ (and-not-left _ _ (sym (q-good a.slots slots-are q is-q) ∙ e))))
+            values-stream e =
+                no-values (and-not-right (places_good t) _ (and-not-right (payload_good ts) _ (and-not-right (singles_good ts) _ (and-not-right (fragment_good ts) _ (refused _ _ (sym (stream-is slots slots-are) ∙ e))))))
 
-            module _ (good-q : q.good ≡ true)
-                (f : Fragment) (is_f : f ≡ fragment_by (slot_given a.slots 8) (slot_value t a.slots 8) (slot_given a.slots 9) (slot_value t a.slots 9)) where
-              pub values-fragment : f.good ≡ false → (r : Values) → r ≡ no_values → r ≡ values_of id t
+            module _ (m : Option Stream) (is_m : stream_by (slot_value t slots 10) (slot_value t slots 11) (slot_value t slots 12) ≡ Some m) where
+              m-told : (stream_good ts ≡ true) × (stream-all ≡ m)
+              m-told = chosen _ _ _ (sym (stream-is slots slots-are) ∙ is_m)
+
+              all-good : places_good t and groups_good ts ≡ true
               unfolding groups_good
-              values-fragment e =
-                  no-values (and-not-right (places_good t) _ (and-not-right (payload_good ts) _ (and-not-right (singles_good ts) _ (and-not-left _ _ (sym (f-good a.slots slots-are f is_f) ∙ e)))))
+              all-good = and_both _ _ places-told.0 (and_both _ _ p-told.0 (and_both _ _ q-told.0 (and_both _ _ f-told.0 m-told.0)))
 
-              module _ (good-f : f.good ≡ true)
-                  (m : Stream) (is_m : m ≡ stream_by (slot_given a.slots 10) (slot_given a.slots 11) (slot_value t a.slots 11) (slot_given a.slots 12) (slot_value t a.slots 12)) where
-                pub values-stream : m.good ≡ false → (r : Values) → r ≡ no_values → r ≡ values_of id t
-                unfolding groups_good
-                values-stream e =
-                    no-values (and-not-right (places_good t) _ (and-not-right (payload_good ts) _ (and-not-right (singles_good ts) _ (and-not-right (fragment_good ts) _ (sym (m-good a.slots slots-are m is_m) ∙ e)))))
-
-                module _ (good-m : m.good ≡ true) where
-                  all-good : places_good t and groups_good ts ≡ true
-                  unfolding groups_good
-                  all-good =
-                      and_both _ _ (sym a-good ∙ good-a) (and_both _ _ (sym (p-good a.slots slots-are p is-p) ∙ good-p) (and_both _ _ (sym (q-good a.slots slots-are q is-q) ∙ good-q)
-                      (and_both _ _ (sym (f-good a.slots slots-are f is_f) ∙ good-f) (sym (m-good a.slots slots-are m is_m) ∙ good-m))))
-
-                  pub values-all : (e : Envelope) → e ≡ gather_of id t a.slots q f m a.headers
-                      → record { good = true; len = p.len; deflated = p.deflated; has_chk = q.has_chk; chk = q.chk; fields = e } ≡ values_of id t
-                  unfolding values_of good_values
-                  values-all e is-e =
-                      let is_all = q-is a.slots slots-are q is-q good-q in
-                      let is-fields = texts a.slots slots-are id q f m a.headers is_all (f-is a.slots slots-are f is_f good-f) (m-is a.slots slots-are m is_m good-m) (ap (λ (x : Places). x.headers) (a-is good-a)) in
-                      rw (is-e ∙ is-fields, p-is a.slots slots-are p is-p good-p, is_all) (sym (if_yes _ _ _ all-good))
+              pub values-all : (e : Envelope) → e ≡ gather_of id t slots q f m a.headers → Some (record { len = p.len; deflated = p.deflated; chk = q.chk; fields = e }) ≡ values_of id t
+              unfolding values_of good_values
+              values-all e is-e =
+                  let is-fields = texts slots slots-are id a.headers (sym (ap (λ (x : Places). x.headers) places-told.1)) in
+                  rw (is-e, sym p-told.1, sym q-told.1, sym f-told.1, sym m-told.1) (rw is-fields (sym (if_yes _ _ _ all-good)))

@@ -1,166 +1,104 @@
-// Document 01, "The ihave line": what the tokens of a line say, where the rules of every key hold: the payload's length, `chk`, and the
-// fields that a datagram has too.
+// What the tokens of a line say, where the rules of every key hold: the payload's length, `chk`, and the fields that a datagram has too.
 #![tactic(auto)]
 
 ghost use Rattle.std.specs.Prelude.{◌≡◌};
 ghost use Rattle.line_groups.specs.Answers.{payload_by, singles_by, fragment_by, stream_by};
-ghost use Rattle.line_fields.specs.Fields.{no_values, values_of};
-ghost use Rattle.line_fields.specs.Steps.{slot_given, slot_value, gather_of};
+ghost use Rattle.line_fields.specs.Fields.{values_of};
+ghost use Rattle.line_fields.specs.Steps.{slot_value, gather_of};
 
-use envelope::Envelope;
+use envelope::{Envelope, Fragment, Stream};
 use headers::Headers;
-use line_groups::{Fragment, Payload, Singles, Stream};
+use line_groups::{Payload, Singles};
 use line_places::Place;
 
 #[derive(Clone, Copy)]
 pub struct Values {
-    pub good: bool,
     pub len: u32,
     pub deflated: bool,
-    pub has_chk: bool,
-    pub chk: u16,
+    pub chk: Option<u16>,
     pub fields: Envelope,
-}
-
-fn no_values() -> Values
-    ensures { result ≡ no_values }
-{
-    let fields = envelope::blank();
-    Values {
-        good: false,
-        len: 0,
-        deflated: false,
-        has_chk: false,
-        chk: 0,
-        fields,
-    }
 }
 
 // ---- the groups, by the places of their keys' values
 
-fn payload(t: &[u8], slots: [Place; 13]) -> Payload
-    ensures { result ≡ payload_by (slot_value t.now slots 0) (slot_value t.now slots 1) (slot_given slots 3) (slot_value t.now slots 3) }
+fn payload(t: &[u8], slots: [Option<Place>; 13]) -> Option<Payload>
+    ensures { result ≡ payload_by (slot_value t.now slots 0) (slot_value t.now slots 1) (slot_value t.now slots 3) }
 {
     let len = line_places::value(t, slots[names::LEN]);
     let fmt = line_places::value(t, slots[names::FMT]);
-    let clen = slots[names::CLEN];
-    line_groups::read_payload(len, fmt, clen.given, line_places::value(t, clen))
+    let clen = line_places::value(t, slots[names::CLEN]);
+    line_groups::read_payload(len, fmt, clen)
 }
 
-fn singles(t: &[u8], slots: [Place; 13]) -> Singles
-    ensures { result ≡ singles_by (slot_given slots 2) (slot_value t.now slots 2) (slot_given slots 6) (slot_value t.now slots 6) (slot_given slots 5) (slot_value t.now slots 5) }
+fn singles(t: &[u8], slots: [Option<Place>; 13]) -> Option<Singles>
+    ensures { result ≡ singles_by (slot_value t.now slots 2) (slot_value t.now slots 6) (slot_value t.now slots 5) }
 {
-    let s = slots[names::S];
-    let ttl = slots[names::TTL];
-    let chk = slots[names::CHK];
-    line_groups::read_singles(
-        s.given,
-        line_places::value(t, s),
-        ttl.given,
-        line_places::value(t, ttl),
-        chk.given,
-        line_places::value(t, chk),
-    )
+    let salt = line_places::value(t, slots[names::S]);
+    let ttl = line_places::value(t, slots[names::TTL]);
+    let chk = line_places::value(t, slots[names::CHK]);
+    line_groups::read_singles(salt, ttl, chk)
 }
 
-fn fragment(t: &[u8], slots: [Place; 13]) -> Fragment
-    ensures { result ≡ fragment_by (slot_given slots 8) (slot_value t.now slots 8) (slot_given slots 9) (slot_value t.now slots 9) }
+fn fragment(t: &[u8], slots: [Option<Place>; 13]) -> Option<Option<Fragment>>
+    ensures { result ≡ fragment_by (slot_value t.now slots 8) (slot_value t.now slots 9) }
 {
-    let mid = slots[names::MID];
-    let frag = slots[names::FRAG];
-    line_groups::read_fragment(
-        mid.given,
-        line_places::value(t, mid),
-        frag.given,
-        line_places::value(t, frag),
-    )
+    let mid = line_places::value(t, slots[names::MID]);
+    let frag = line_places::value(t, slots[names::FRAG]);
+    line_groups::read_fragment(mid, frag)
 }
 
-fn stream(t: &[u8], slots: [Place; 13]) -> Stream
-    ensures { result ≡ stream_by (slot_given slots 10) (slot_given slots 11) (slot_value t.now slots 11) (slot_given slots 12) (slot_value t.now slots 12) }
+fn stream(t: &[u8], slots: [Option<Place>; 13]) -> Option<Option<Stream>>
+    ensures { result ≡ stream_by (slot_value t.now slots 10) (slot_value t.now slots 11) (slot_value t.now slots 12) }
 {
-    let sid = slots[names::SID];
-    let sn = slots[names::SN];
-    let gt = slots[names::GT];
-    line_groups::read_stream(
-        sid.given,
-        sn.given,
-        line_places::value(t, sn),
-        gt.given,
-        line_places::value(t, gt),
-    )
+    let sid = line_places::value(t, slots[names::SID]);
+    let sn = line_places::value(t, slots[names::SN]);
+    let gt = line_places::value(t, slots[names::GT]);
+    line_groups::read_stream(sid, sn, gt)
 }
 
-// The fields of the message, from the groups that were read and the texts of `src`, `sid` and `dst`.
+// The fields of the message, from the groups that were read and the texts of `src` and `dst`.
+#[tactic(auto, unfolding(crate::specs::Steps::gather_of))]
 fn gather(
     id: u32,
     t: &[u8],
-    slots: [Place; 13],
+    slots: [Option<Place>; 13],
     q: Singles,
-    f: Fragment,
-    m: Stream,
+    fragment: Option<Fragment>,
+    stream: Option<Stream>,
     headers: Headers,
 ) -> Envelope
-    ensures { result ≡ gather_of id t.now slots q f m headers }
+    ensures { result ≡ gather_of id t.now slots q fragment stream headers }
 {
     let from = slots[names::SRC];
-    let src = envelope::call_text(line_places::value(t, from));
-    let sid = envelope::stream_text(line_places::value(t, slots[names::SID]));
-    let dst = envelope::address_text(line_places::value(t, slots[names::DST]));
+    let src = line_places::value(t, from).map(|s| envelope::call_text(s));
+    let dst = line_places::value(t, slots[names::DST]).unwrap_or(&[]);
     Envelope {
         id,
-        has_salt: q.has_salt,
         salt: q.salt,
-        has_ttl: q.has_ttl,
         ttl: q.ttl,
-        has_src: from.given,
         src,
-        has_fragment: f.given,
-        mid: f.mid,
-        index: f.index,
-        total: f.total,
-        has_stream: m.given,
-        sid,
-        sn: m.sn,
-        gt: m.gt,
+        fragment,
+        stream,
         headers,
-        dst,
+        dst: envelope::address_text(dst),
     }
 }
 
-// What the tokens say, where the rules of every key hold.
-pub fn read_values(id: u32, t: &[u8]) -> Values
+// What the tokens say; nothing where the rules of a key do not hold.
+pub fn read_values(id: u32, t: &[u8]) -> Option<Values>
     ensures { result ≡ values_of id t.now }
 {
-    let places = line_places::read_places(t);
-    if !places.good {
-        return no_values();
-    }
+    let places = line_places::read_places(t)?;
     let slots = places.slots;
-    let p = payload(t, slots);
-    if !p.good {
-        return no_values();
-    }
-    let q = singles(t, slots);
-    if !q.good {
-        return no_values();
-    }
-    let f = fragment(t, slots);
-    if !f.good {
-        return no_values();
-    }
-    let m = stream(t, slots);
-    if !m.good {
-        return no_values();
-    }
-    let headers = places.headers;
-    let fields = gather(id, t, slots, q, f, m, headers);
-    Values {
-        good: true,
+    let p = payload(t, slots)?;
+    let q = singles(t, slots)?;
+    let f = fragment(t, slots)?;
+    let m = stream(t, slots)?;
+    let fields = gather(id, t, slots, q, f, m, places.headers);
+    Some(Values {
         len: p.len,
         deflated: p.deflated,
-        has_chk: q.has_chk,
         chk: q.chk,
         fields,
-    }
+    })
 }

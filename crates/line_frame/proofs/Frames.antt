@@ -1,32 +1,34 @@
 -- The head of a line: whether it is good, and the id that it says.
-use Rattle.std.specs.Prelude.{if◌then◌else◌}
+use Rattle.std.specs.Prelude.{Some, None, if◌then◌else◌}
 use Prim.Native.Nat.{ℕ}
-use mathlib.Core.Path.{◌≡◌, refl, ap, ◌∙◌}
+use mathlib.Core.Path.{◌≡◌, refl}
 use mathlib.Core.Bool.{Bool, true, false}
 use mathlib.Core.List.{List}
 use Rattle.octets.specs.Words.{◌and◌}
 use Rattle.octets.specs.Bytes.{same}
-use Rattle.octets.proofs.Tests.{true-not-false}
 use Rattle.text.specs.Hex.{is_hex, hex_value}
-use Rattle.line_values.specs.Values.{master_of}
-use Rattle.line_values.specs.declared.Master.{Master}
-use Rattle.line_values.proofs.Single.{master-good, master-says}
 use Rattle.line_frame.specs.Frame.{ihave, verb_word, id_word, is_text, line_head}
 
-module _ (s : List ℕ) (x : Master) (is_x : x ≡ line_head s) where
-  pub head-good : x.good ≡ is_text s and (same (verb_word s) ihave and is_hex 7 (id_word s))
-  unfolding line_head
-  head-good = ap (λ (y : Master). y.good) is_x ∙ go (is_text s) (same (verb_word s) ihave)
-    where
-      go : (a b : Bool) → (if a and b then master_of (id_word s) else record { good = false; id = 0 }).good ≡ a and (b and is_hex 7 (id_word s))
-      go true true = master-good (id_word s) (master_of (id_word s)) refl
-      go true false = refl
-      go false b = refl
+module _ (s : List ℕ) where
+  abbrev good : Bool
+  good = is_text s and (same (verb_word s) ihave and is_hex 7 (id_word s))
 
-  pub head-says : x.good ≡ true → x.id ≡ hex_value (id_word s)
+  pub head_none : line_head s ≡ None → good ≡ false
   unfolding line_head
-  head-says e = go (is_text s and same (verb_word s) ihave) is_x
+  head_none e = go (is_text s) (same (verb_word s) ihave) (is_hex 7 (id_word s)) e
     where
-      go : (b : Bool) → x ≡ (if b then master_of (id_word s) else record { good = false; id = 0 }) → x.id ≡ hex_value (id_word s)
-      go true q = master-says (id_word s) x q e
-      go false q = true-not-false x.good e (ap (λ (y : Master). y.good) q)
+      go : (a b c : Bool) → (if a and b then (if c then Some (hex_value (id_word s)) else None) else None) ≡ None → a and (b and c) ≡ false
+      go true true true q = cc
+      go true true false q = refl
+      go true false c q = refl
+      go false b c q = refl
+
+  pub head_some : (id : ℕ) → line_head s ≡ Some id → (good ≡ true) × (id ≡ hex_value (id_word s))
+  unfolding line_head
+  head_some id e = go (is_text s) (same (verb_word s) ihave) (is_hex 7 (id_word s)) e
+    where
+      go : (a b c : Bool) → (if a and b then (if c then Some (hex_value (id_word s)) else None) else None) ≡ Some id → (a and (b and c) ≡ true) × (id ≡ hex_value (id_word s))
+      go true true true q = (refl, cc)
+      go true true false q = cc
+      go true false c q = cc
+      go false b c q = cc

@@ -1,14 +1,12 @@
 -- Document 01, "The ihave line": the line's text, its first two words, and the tokens behind them.
-use Rattle.std.specs.Prelude.{ℕ, Bool, false, List, length, if◌then◌else◌}
+use Rattle.std.specs.Prelude.{ℕ, Bool, List, length, Option, None, if◌then◌else◌}
 use Rattle.octets.specs.Words.{◌and◌, no, ◌≤?◌, ◌=?◌, every}
 use Rattle.octets.specs.Bytes.{same}
 use Rattle.utf8.specs.Utf8.{utf8}
-use Rattle.text.specs.Hex.{is_hex}
+use Rattle.text.specs.Hex.{is_hex, id_of}
 use Rattle.tokens.specs.Cuts.{before, after}
 use Rattle.tokens.specs.Tokens.{keyed, space}
 pub use Rattle.tokens.specs.Tokens.{ihave}
-use Rattle.line_values.specs.Values.{master_of}
-use Rattle.line_values.specs.declared.Master.{Master}
 
 abbrev pub verb_word : List ℕ → List ℕ
 verb_word s = before space s
@@ -33,5 +31,5 @@ unfoldable pub framed : List ℕ → Bool
 framed s = same (verb_word s) ihave and (is_hex 7 (id_word s) and keyed (rest_of s))
 
 -- the id, where the bytes may be a line's and the first word is `ihave`
-unfoldable pub line_head : List ℕ → Master
-line_head s = if is_text s and same (verb_word s) ihave then master_of (id_word s) else record { good = false; id = 0 }
+unfoldable pub line_head : List ℕ → Option ℕ
+line_head s = if is_text s and same (verb_word s) ihave then id_of (id_word s) else None

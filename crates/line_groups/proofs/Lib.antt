@@ -1,3 +1,3 @@
--- Laws of a line's groups of keys, and what every public contract must show.
-pub mod Groups
+-- What the values that may be missing say, and what every public contract must show.
+pub mod Given
 pub mod Unique

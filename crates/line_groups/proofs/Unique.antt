@@ -28,8 +28,8 @@ read-fragment-one κs a x y v w p q = (p ∙ sym q, refl)
 pub read-fragment-free : Free 2 read-fragment-kinds.ps read-fragment-reads.Pre
 read-fragment-free κs a = tt
 
-pub read-stream-one : One 2 read-stream-kinds.ps read-stream-kinds.r read-stream-reads.Post
+pub read-stream-one : One 3 read-stream-kinds.ps read-stream-kinds.r read-stream-reads.Post
 read-stream-one κs a x y v w p q = (p ∙ sym q, refl)
 
-pub read-stream-free : Free 2 read-stream-kinds.ps read-stream-reads.Pre
+pub read-stream-free : Free 3 read-stream-kinds.ps read-stream-reads.Pre
 read-stream-free κs a = tt

@@ -1,70 +1,53 @@
--- What the readers of a line's values answer: where the rules hold, the values, else nothing but that they do not.
-use Rattle.std.specs.Prelude.{ℕ, Bool, true, false, List, pos, if◌then◌else◌}
+-- What the readers of a line's values answer: where the rules hold, the values, else nothing.
+use Rattle.std.specs.Prelude.{ℕ, List, Option, Some, None, if◌then◌else◌}
+use Rattle.std.specs.Option.{is_some, option_map}
 use Rattle.octets.specs.Bytes.{same}
 use Rattle.text.specs.Decimal.{number, signed}
 use Rattle.text.specs.Hex.{hex_value}
 use Rattle.names.specs.Reserved.{key_len}
+use Rattle.envelope.specs.Texts.{stream_text}
+use Rattle.envelope.specs.declared.Fragment.{Fragment}
+use Rattle.envelope.specs.declared.Stream.{Stream}
 use Rattle.tokens.specs.Cuts.{before, after}
 use Rattle.tokens.specs.Tokens.{Token, value}
-use Rattle.line_values.specs.Values.{slash, text_if}
+use Rattle.line_values.specs.Values.{slash, text_of}
 use Rattle.line_groups.specs.Rules.{'d', payload_rule, singles_rule, fragment_rule, stream_rule}
 use Rattle.line_groups.specs.declared.Payload.{Payload}
 use Rattle.line_groups.specs.declared.Singles.{Singles}
-use Rattle.line_groups.specs.declared.Fragment.{Fragment}
-use Rattle.line_groups.specs.declared.Stream.{Stream}
 
 abbrev pub len_of : List Token → ℕ
 len_of ts = number (value key_len ts)
 
--- no values: the rules do not hold, or (`good`) nothing is there
-abbrev pub no_payload : Payload
-no_payload = record { good = false; len = 0; deflated = false }
-
-abbrev pub no_singles : Singles
-no_singles = record { good = false; has_salt = false; salt = pos 0; has_ttl = false; ttl = 0; has_chk = false; chk = 0 }
-
-abbrev pub no_fragment : Bool → Fragment
-no_fragment good = record { good = good; given = false; mid = 0; index = 0; total = 0 }
-
-abbrev pub no_stream : Bool → Stream
-no_stream good = record { good = good; given = false; sn = 0; gt = 0 }
-
 -- `len`, `fmt` and `clen`
-unfoldable pub payload_by : List ℕ → List ℕ → Bool → List ℕ → Payload
-payload_by len fmt hasClen clen =
-    if payload_rule len fmt hasClen clen then record { good = true; len = number len; deflated = same fmt 'd' } else no_payload
+unfoldable pub payload_by : Option (List ℕ) → Option (List ℕ) → Option (List ℕ) → Option Payload
+payload_by len fmt clen =
+    if payload_rule (text_of len) (text_of fmt) (is_some clen) (text_of clen)
+    then Some (record { len = number (text_of len); deflated = same (text_of fmt) 'd' })
+    else None
 
 -- `s`, `ttl` and `chk`
-unfoldable pub singles_by : Bool → List ℕ → Bool → List ℕ → Bool → List ℕ → Singles
-singles_by hasS s hasTtl ttl hasChk chk =
-    if singles_rule hasS s hasTtl ttl hasChk chk
-    then record {
-      good = true;
-      has_salt = hasS;
-      salt = signed (text_if hasS s);
-      has_ttl = hasTtl;
-      ttl = number (text_if hasTtl ttl);
-      has_chk = hasChk;
-      chk = hex_value (text_if hasChk chk);
-    }
-    else no_singles
+unfoldable pub singles_by : Option (List ℕ) → Option (List ℕ) → Option (List ℕ) → Option Singles
+singles_by s ttl chk =
+    if singles_rule (is_some s) (text_of s) (is_some ttl) (text_of ttl) (is_some chk) (text_of chk)
+    then Some (record { salt = option_map signed s; ttl = option_map number ttl; chk = option_map hex_value chk })
+    else None
 
 -- `mid` and `frag`
-unfoldable pub fragment_by : Bool → List ℕ → Bool → List ℕ → Fragment
-fragment_by hasMid mid hasFrag frag =
-    if fragment_rule hasMid mid hasFrag frag
-    then record {
-      good = true;
-      given = hasMid;
-      mid = hex_value (text_if hasMid mid);
-      index = number (before slash (text_if hasFrag frag));
-      total = number (after slash (text_if hasFrag frag));
-    }
-    else no_fragment false
+abbrev pub fragment_at : List ℕ → List ℕ → Fragment
+fragment_at mid frag = record { mid = hex_value mid; index = number (before slash frag); total = number (after slash frag) }
+
+unfoldable pub fragment_by : Option (List ℕ) → Option (List ℕ) → Option (Option Fragment)
+fragment_by mid frag =
+    if fragment_rule (is_some mid) (text_of mid) (is_some frag) (text_of frag)
+    then Some (option_map (λ m. fragment_at m (text_of frag)) mid)
+    else None
 
 -- `sid`, `sn` and `gt`
-unfoldable pub stream_by : Bool → Bool → List ℕ → Bool → List ℕ → Stream
-stream_by hasSid hasSn sn hasGt gt =
-    if stream_rule hasSid hasSn sn hasGt gt
-    then record { good = true; given = hasSid; sn = number (text_if hasSn sn); gt = number (text_if hasGt gt) }
-    else no_stream false
+abbrev pub stream_at : List ℕ → List ℕ → List ℕ → Stream
+stream_at sid sn gt = record { sid = stream_text sid; sn = number sn; gt = number gt }
+
+unfoldable pub stream_by : Option (List ℕ) → Option (List ℕ) → Option (List ℕ) → Option (Option Stream)
+stream_by sid sn gt =
+    if stream_rule (is_some sid) (is_some sn) (text_of sn) (is_some gt) (text_of gt)
+    then Some (option_map (λ s. stream_at s (text_of sn) (text_of gt)) sid)
+    else None

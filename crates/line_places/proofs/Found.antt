@@ -1,5 +1,5 @@
--- What stands at the place of a key is the key's value, and its flag says whether the key is there.
-use Rattle.std.specs.Prelude.{if◌then◌else◌}
+-- What stands at the place of a key is the key's value.
+use Rattle.std.specs.Prelude.{Option, Some, None, if◌then◌else◌}
 use Prim.Native.Nat.{ℕ, zero, suc, ◌+◌, ◌-◌, ◌<◌}
 use mathlib.Core.Path.{◌≡◌, refl, ap, sym, ◌∙◌}
 use mathlib.Core.Bool.{Bool, true, false}
@@ -13,23 +13,13 @@ use Rattle.octets.specs.Bytes.{same}
 use Rattle.names.specs.Reserved.{reserved_keys}
 use Rattle.names.proofs.Reserved.{counts}
 use Rattle.tokens.specs.Cuts.{before, after}
-use Rattle.tokens.specs.Tokens.{token_of, words, tokens, present, value, space, equals}
+use Rattle.tokens.specs.Tokens.{token_of, words, tokens, present, value, given, space, equals}
 use Rattle.tokens.specs.Steps.{words_from, word_at}
 use Rattle.tokens.proofs.Parts.{before-take, after-drop}
 use Rattle.tokens.proofs.Words.{words-start, words-next, words-end}
-use Rattle.line_places.specs.Places.{no_place, place_from, value_at}
+use Rattle.line_places.specs.Places.{no_place, place_at, place_from, value_at}
 use Rattle.line_places.specs.declared.Place.{Place}
 use Rattle.line_places.proofs.Walk.{map_at}
-
-pub place-given : (at : ℕ) (ws : List (List ℕ)) (k : List ℕ) → (place_from at ws k).given ≡ present k (map token_of ws)
-unfolding place_from present
-place-given at [] k = refl
-place-given at (w ∷ ws) k = go (same k (before equals w)) (place-given (at + length w + 1) ws k)
-  where
-    go : (b : Bool) → (place_from (at + length w + 1) ws k).given ≡ present k (map token_of ws)
-        → (if b then record { given = true; start = at + length (before equals w) + 1; len = length (after equals w) } else place_from (at + length w + 1) ws k).given ≡ (b or present k (map token_of ws))
-    go true h = refl
-    go false h = h
 
 drop-take : (m n : ℕ) (l : List ℕ) → drop m (take n l) ≡ take (n - m) (drop m l)
 drop-take zero n l = let z : n - 0 ≡ n = omega arith in rw z
@@ -64,31 +54,28 @@ module _ (t k : List ℕ) where
       let f = sym (words-end t at (leb-false at (length t) q)) ∙ e in
       let z : ◌≡◌ {A = ℕ} 0 1 = cc in absurd (omega arith)
 
-  value-from : (ws : List (List ℕ)) (at : ℕ) → words_from at t ≡ ws → value_at t (place_from at ws k) ≡ value k (map token_of ws)
-  unfolding place_from value
+  value-from : (ws : List (List ℕ)) (at : ℕ) → words_from at t ≡ ws → value_at t (place_from at ws k) ≡ given k (map token_of ws)
+  unfolding place_from present value
   value-from [] at e = refl
   value-from (w ∷ ws) at e =
       let f = there w ws at e (at ≤? length t) refl in
       go (same k (before equals w)) f.0 (value-from ws (at + length w + 1) f.1)
     where
-      go : (b : Bool) → w ≡ word_at at t → value_at t (place_from (at + length w + 1) ws k) ≡ value k (map token_of ws)
-          → value_at t (if b then record { given = true; start = at + length (before equals w) + 1; len = length (after equals w) } else place_from (at + length w + 1) ws k) ≡ (if b then after equals w else value k (map token_of ws))
-      go true f h = value_there t at w f
+      go : (b : Bool) → w ≡ word_at at t → value_at t (place_from (at + length w + 1) ws k) ≡ given k (map token_of ws)
+          → value_at t (if b then place_at (at + length (before equals w) + 1) (length (after equals w)) else place_from (at + length w + 1) ws k) ≡ (if b or present k (map token_of ws) then Some (if b then after equals w else value k (map token_of ws)) else None)
+      go true f h = ap Some (value_there t at w f)
       go false f h = h
 
-  pub place-value : value_at t (place_from 0 (words t) k) ≡ value k (tokens t)
+  pub place-value : value_at t (place_from 0 (words t) k) ≡ given k (tokens t)
   place-value = value-from (words t) 0 (sym (words-start t))
 
   -- as the table of places has them
-  module _ (slots : List Place) (e : slots ≡ map (place_from 0 (words t)) reserved_keys) (i : ℕ) (l : i < 13) (is_key : get_or reserved_keys i [] ≡ k) where
+  module _ (slots : List (Option Place)) (e : slots ≡ map (place_from 0 (words t)) reserved_keys) (i : ℕ) (l : i < 13) (is_key : get_or reserved_keys i [] ≡ k) where
     slot_is : get_or slots i no_place ≡ place_from 0 (words t) k
     slot_is =
-        ap (λ (p : List Place). get_or p i no_place) e
+        ap (λ (p : List (Option Place)). get_or p i no_place) e
         ∙ map_at (place_from 0 (words t)) reserved_keys i no_place [] (omega (arith, counts.1))
         ∙ ap (place_from 0 (words t)) is_key
 
-    pub slot-given : (get_or slots i no_place).given ≡ present k (tokens t)
-    slot-given = ap (λ (p : Place). p.given) slot_is ∙ place-given 0 (words t) k
-
-    pub slot-value : value_at t (get_or slots i no_place) ≡ value k (tokens t)
+    pub slot-value : value_at t (get_or slots i no_place) ≡ given k (tokens t)
     slot-value = ap (value_at t) slot_is ∙ place-value

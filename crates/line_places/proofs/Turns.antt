@@ -1,4 +1,6 @@
 -- A turn of the pass as the code takes it: the word at a place, its key and its value as parts of the text.
+use Rattle.std.specs.Prelude.{Option, Some, None}
+use Rattle.std.specs.Option.{is_some}
 use Prim.Native.Nat.{ℕ, ◌+◌, ◌-◌, ◌≤◌, ◌<◌}
 use mathlib.Core.Path.{◌≡◌, refl, ap, sym, ◌∙◌}
 use mathlib.Core.Bool.{Bool, true, false}
@@ -18,15 +20,14 @@ use Rattle.tokens.specs.Tokens.{words, space, equals}
 use Rattle.tokens.specs.Steps.{words_from}
 use Rattle.tokens.proofs.Parts.{has-before, part-before, part-after, before-short}
 use Rattle.tokens.proofs.Words.{word-is, words-start, words-next, words-end}
-use Rattle.line_places.specs.Places.{no_place, place_at, no_places, places_of}
+use Rattle.line_places.specs.Places.{no_place, place_at, places_of}
 use Rattle.line_places.specs.declared.Place.{Place}
-use Rattle.line_places.specs.declared.Places.{Places}
 use Rattle.line_places.proofs.Walk.{Walked, walk_start, bare-word, chk-before, key-again, header-unfit, walk-header, walk-reserved, bad-word, bad-once, bad_last, bad-headers, walk_end}
 
-pub turns-start : (t : List ℕ) (none : Place) (h : Headers) → none ≡ no_place → h ≡ no_headers → Walked (words t) (replicate 13 none) h 0 (words_from 0 t)
-turns-start t none h e f = rw (sym (words-start t)) (walk_start (words t) none h e f)
+pub turns-start : (t : List ℕ) (h : Headers) → h ≡ no_headers → Walked (words t) (replicate 13 no_place) h 0 (words_from 0 t)
+turns-start t h f = rw (sym (words-start t)) (walk_start (words t) h f)
 
-pub turns-end : (t : List ℕ) (slots : List Place) (h : Headers) (at : ℕ) → Walked (words t) slots h at (words_from at t) → length t < at → record { good = true; slots = slots; headers = h } ≡ places_of t
+pub turns-end : (t : List ℕ) (slots : List (Option Place)) (h : Headers) (at : ℕ) → Walked (words t) slots h at (words_from at t) → length t < at → Some (record { slots = slots; headers = h }) ≡ places_of t
 turns-end t slots h at r l = walk_end t slots h at (rw (words-end t at l) at r)
 
 -- the first n bytes of a word, said as a part of it
@@ -41,9 +42,12 @@ told true b e = true-not-false false e refl
 told false true e = true-not-false false e refl
 told false false e = (refl, refl)
 
-module _ (t : List ℕ) (slots : List Place) (h : Headers) (at : ℕ) (r : Walked (words t) slots h at (words_from at t)) (l : at ≤ length t)
+module _ (t : List ℕ) (slots : List (Option Place)) (h : Headers) (at : ℕ) (r : Walked (words t) slots h at (words_from at t)) (l : at ≤ length t)
     (w : List ℕ) (is_IsWord : w ≡ before space (take (length t - at) (drop at t))) (n : ℕ) (is-n : n ≡ length (before equals w))
-    (b : Bool) (is_b : b ≡ no (get_or slots 5 no_place).given and no (n =? length w)) where
+    (z : Bool) (is-z : z ≡ is_some (get_or slots 5 no_place)) (b : Bool) (tested : b ≡ no z and no (n =? length w)) where
+  is_b : b ≡ no (is_some (get_or slots 5 no_place)) and no (n =? length w)
+  is_b = tested ∙ ap (λ (g : Bool). no g and no (n =? length w)) is-z
+
   abbrev rest : List (List ℕ)
   rest = words_from (at + length w + 1) t
 
@@ -56,20 +60,20 @@ module _ (t : List ℕ) (slots : List Place) (h : Headers) (at : ℕ) (r : Walke
   cut : (n =? length w) ≡ false → has equals w ≡ true
   cut e = has-before equals w ∙ lt-ltb (length (before equals w)) (length w) (lt_of (length (before equals w)) (length w) (before-short equals w) (λ q. eqb-false n (length w) e (is-n ∙ q)))
 
-  pub turn-bad : b ≡ false → (a : Places) → a ≡ no_places → a ≡ places_of t
-  turn-bad e = go (get_or slots 5 no_place).given refl (n =? length w) refl
+  pub turn-bad : b ≡ false → None ≡ places_of t
+  turn-bad e = go (is_some (get_or slots 5 no_place)) refl (n =? length w) refl
     where
-      go : (x : Bool) → (get_or slots 5 no_place).given ≡ x → (y : Bool) → (n =? length w) ≡ y → (a : Places) → a ≡ no_places → a ≡ places_of t
+      go : (x : Bool) → (is_some (get_or slots 5 no_place)) ≡ x → (y : Bool) → (n =? length w) ≡ y → None ≡ places_of t
       go true p y q = bad_last t (chk-before (words t) slots h at w rest here p)
       go false p true q = bad-word t (bare-word (words t) slots h at w rest here (bare q))
       go false p false q = true-not-false b (is_b ∙ rw (p, q)) e
 
   pub turn-cut : b ≡ true → n < length w
-  turn-cut good = lt_of n (length w) (omega (arith, before-short equals w)) (eqb-false n (length w) (told (get_or slots 5 no_place).given (n =? length w) (sym is_b ∙ good)).1)
+  turn-cut good = lt_of n (length w) (omega (arith, before-short equals w)) (eqb-false n (length w) (told (is_some (get_or slots 5 no_place)) (n =? length w) (sym is_b ∙ good)).1)
 
   module _ (good : b ≡ true) (x : List ℕ) (is_key : x ≡ take (n - 0) (drop 0 w)) (k : ℕ) (is-k : k ≡ key_place x) where
-    both : ((get_or slots 5 no_place).given ≡ false) × ((n =? length w) ≡ false)
-    both = told (get_or slots 5 no_place).given (n =? length w) (sym is_b ∙ good)
+    both : ((is_some (get_or slots 5 no_place)) ≡ false) × ((n =? length w) ≡ false)
+    both = told (is_some (get_or slots 5 no_place)) (n =? length w) (sym is_b ∙ good)
 
     key-is : x ≡ before equals w
     key-is = is_key ∙ part-before equals w n is-n
@@ -81,14 +85,14 @@ module _ (t : List ℕ) (slots : List Place) (h : Headers) (at : ℕ) (r : Walke
       is-reserved : reserved (before equals w) ≡ true
       is-reserved = reserved-place (before equals w) ∙ ap (λ (i : ℕ). i <? 13) (sym place_is) ∙ lt-ltb k 13 m
 
-      pub turn-again : (get_or slots k no_place).given ≡ true → (a : Places) → a ≡ no_places → a ≡ places_of t
-      turn-again e = bad-once t (key-again (words t) slots h at w rest here is-reserved (ap (λ (i : ℕ). (get_or slots i no_place).given) (sym place_is) ∙ e))
+      pub turn-again : (is_some (get_or slots k no_place)) ≡ true → None ≡ places_of t
+      turn-again e = bad-once t (key-again (words t) slots h at w rest here is-reserved (ap (λ (i : ℕ). (is_some (get_or slots i no_place))) (sym place_is) ∙ e))
 
-      pub turn-kept : (get_or slots k no_place).given ≡ false → (v : List ℕ) → v ≡ take (length w - (n + 1)) (drop (n + 1) w) → (p : Place) → p ≡ place_at (at + n + 1) (length v)
+      pub turn-kept : (is_some (get_or slots k no_place)) ≡ false → (v : List ℕ) → v ≡ take (length w - (n + 1)) (drop (n + 1) w) → (p : Option Place) → p ≡ place_at (at + n + 1) (length v)
           → Walked (words t) (set slots k p) h (at + length w + 1) rest
       turn-kept e v is-v p is-p =
           rw (is-p, is-n, place_is, is-v ∙ part-after equals w n is-n)
-          (walk-reserved (words t) slots h at w rest here (cut both.1) both.0 is-reserved (ap (λ (i : ℕ). (get_or slots i no_place).given) (sym place_is) ∙ e))
+          (walk-reserved (words t) slots h at w rest here (cut both.1) both.0 is-reserved (ap (λ (i : ℕ). (is_some (get_or slots i no_place))) (sym place_is) ∙ e))
 
     module _ (m : 13 ≤ k) (v : List ℕ) (is-v : v ≡ take (length w - (n + 1)) (drop (n + 1) w)) (f : Bool) (is_f : f ≡ h.count <? 8 and length v ≤? 128) where
       is-other : reserved (before equals w) ≡ false
@@ -100,7 +104,7 @@ module _ (t : List ℕ) (slots : List Place) (h : Headers) (at : ℕ) (r : Walke
       fit_is : h.count <? 8 and length (after equals w) ≤? 128 ≡ f
       fit_is = ap (λ (u : List ℕ). h.count <? 8 and length u ≤? 128) (sym value-is) ∙ sym is_f
 
-      pub turn-unfit : f ≡ false → (a : Places) → a ≡ no_places → a ≡ places_of t
+      pub turn-unfit : f ≡ false → None ≡ places_of t
       turn-unfit e = bad-headers t (header-unfit (words t) slots h at w rest here is-other (fit_is ∙ e))
 
       -- there is room for one header more, and it stands behind the others

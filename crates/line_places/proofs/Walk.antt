@@ -1,5 +1,6 @@
 -- The pass over the words: what was kept of those behind, and the words from a place on, decide.
-use Rattle.std.specs.Prelude.{if◌then◌else◌}
+use Rattle.std.specs.Prelude.{Option, Some, None, if◌then◌else◌}
+use Rattle.std.specs.Option.{is_some}
 use Prim.Native.Nat.{ℕ, zero, suc, ◌+◌, ◌<◌}
 use mathlib.Core.Path.{◌≡◌, refl, ap, sym, ◌∙◌}
 use mathlib.Core.Bool.{Bool, true, false}
@@ -20,10 +21,9 @@ use Rattle.envelope.specs.Texts.{no_headers, with_header}
 use Rattle.tokens.specs.Cuts.{has, before, after}
 use Rattle.tokens.specs.Tokens.{token_of, words, tokens, keys, others, none, last_only, equals}
 use Rattle.line_places.specs.Headers.{short_value, header_of, headers_fit, headers_of}
-use Rattle.line_places.specs.Places.{no_place, place_from, reserved_among, places_good, no_places, places_of}
+use Rattle.line_places.specs.Places.{no_place, place_from, reserved_among, place_at, places_good, places_of}
 use Rattle.line_places.specs.Steps.{Gathered, fitting, unfit, push_of, gather, gathered_of}
 use Rattle.line_places.specs.declared.Place.{Place}
-use Rattle.line_places.specs.declared.Places.{Places}
 use Rattle.line_places.proofs.Gathered.{gather-stays, all-gathered}
 
 abbrev key_at : ℕ → List ℕ
@@ -33,10 +33,10 @@ abbrev keys_in : List (List ℕ) → List (List ℕ)
 keys_in ws = keys (map token_of ws)
 
 -- the slot of a key was not taken yet; that of every key, and no key comes again
-unfoldable pub free : List Place → List ℕ → Bool
-free slots k = no (get_or slots (key_place k) no_place).given
+unfoldable pub free : List (Option Place) → List ℕ → Bool
+free slots k = no (is_some (get_or slots (key_place k) no_place))
 
-abbrev fresh : List Place → List (List ℕ) → Bool
+abbrev fresh : List (Option Place) → List (List ℕ) → Bool
 fresh slots ks = every (free slots) ks and all_differ ks
 
 -- once `chk` was seen, nothing may follow
@@ -44,17 +44,16 @@ abbrev last_in : Bool → List (List ℕ) → Bool
 last_in seen ks = if seen then none ks else last_only key_chk ks
 
 -- what was found, else what is still to be found
-abbrev found : Place → Place → Place
-found p q = if p.given then p else q
+abbrev found : Option Place → Option Place → Option Place
+found p q = if (is_some p) then p else q
 
 -- of all words: what the slots and the headers have, and the words ws, of which the first begins at `at`, decide every rule
-pub record Walked (all : List (List ℕ)) (slots : List Place) (h : Headers) (at : ℕ) (ws : List (List ℕ)) : Type 0 where
+pub record Walked (all : List (List ℕ)) (slots : List (Option Place)) (h : Headers) (at : ℕ) (ws : List (List ℕ)) : Type 0 where
   pub long : length slots ≡ 13
-  pub blank : (i : ℕ) → (get_or slots i no_place).given ≡ false → i < 13 → get_or slots i no_place ≡ no_place
   pub slot : (i : ℕ) → i < 13 → place_from 0 all (key_at i) ≡ found (get_or slots i no_place) (place_from at ws (key_at i))
   pub assigned : every (has equals) all ≡ every (has equals) ws
   pub once : all_differ (reserved_among (keys_in all)) ≡ fresh slots (reserved_among (keys_in ws))
-  pub last : last_only key_chk (keys_in all) ≡ last_in (get_or slots 5 no_place).given (keys_in ws)
+  pub last : last_only key_chk (keys_in all) ≡ last_in (is_some (get_or slots 5 no_place)) (keys_in ws)
   pub heads : gathered_of (map token_of all) ≡ gather (fitting h) (map token_of ws)
 
 -- ---- the start
@@ -64,15 +63,14 @@ unfolding free
 all-free [] = refl
 all-free (k ∷ ks) = and_both (free (replicate 13 no_place) k) _ (no_false _ (go (key_place k <? 13) refl)) (all-free ks)
   where
-    go : (b : Bool) → (key_place k <? 13) ≡ b → (get_or (replicate 13 no_place) (key_place k) no_place).given ≡ false
-    go true e = ap (λ (p : Place). p.given) (get_or-replicate 13 (key_place k) no_place no_place (ltb-true (key_place k) 13 e))
-    go false e = ap (λ (p : Place). p.given) (get_or-eq_default (replicate 13 no_place) no_place {n = key_place k} (omega (arith, length-replicate 13 no_place, ltb-false (key_place k) 13 e)))
+    go : (b : Bool) → (key_place k <? 13) ≡ b → (is_some (get_or (replicate 13 no_place) (key_place k) no_place)) ≡ false
+    go true e = ap (λ (p : Option Place). (is_some p)) (get_or-replicate 13 (key_place k) no_place no_place (ltb-true (key_place k) 13 e))
+    go false e = ap (λ (p : Option Place). (is_some p)) (get_or-eq_default (replicate 13 no_place) no_place {n = key_place k} (omega (arith, length-replicate 13 no_place, ltb-false (key_place k) 13 e)))
 
-pub walk_start : (all : List (List ℕ)) (none : Place) (h : Headers) → none ≡ no_place → h ≡ no_headers → Walked all (replicate 13 none) h 0 all
-walk_start all none h is_none is-h = rw (is_none, is-h) (record {
+pub walk_start : (all : List (List ℕ)) (h : Headers) → h ≡ no_headers → Walked all (replicate 13 no_place) h 0 all
+walk_start all h is-h = rw is-h (record {
   long = length-replicate 13 no_place;
-  blank = λ i e l. get_or-replicate 13 i no_place no_place l;
-  slot = λ i l. ap (λ (p : Place). found p (place_from 0 all (key_at i))) (sym (get_or-replicate 13 i no_place no_place l));
+  slot = λ i l. ap (λ (p : Option Place). found p (place_from 0 all (key_at i))) (sym (get_or-replicate 13 i no_place no_place l));
   assigned = refl;
   once = ap (λ (b : Bool). b and all_differ (reserved_among (keys_in all))) (sym (all-free (reserved_among (keys_in all))));
   last = refl;
@@ -113,7 +111,7 @@ at-differs i k l d = go (same (key_at i) k) refl
     go false e = refl
     go true e = absurd (d (ap key_place (sym (same-eq (key_at i) k e)) ∙ place-back i l))
 
-module _ (all : List (List ℕ)) (slots : List Place) (h : Headers) (at : ℕ) (w : List ℕ) (ws : List (List ℕ)) (r : Walked all slots h at (w ∷ ws)) where
+module _ (all : List (List ℕ)) (slots : List (Option Place)) (h : Headers) (at : ℕ) (w : List ℕ) (ws : List (List ℕ)) (r : Walked all slots h at (w ∷ ws)) where
   abbrev key : List ℕ
   key = before equals w
 
@@ -124,10 +122,10 @@ module _ (all : List (List ℕ)) (slots : List Place) (h : Headers) (at : ℕ) (
   pub bare-word : has equals w ≡ false → every (has equals) all ≡ false
   bare-word e = r.assigned ∙ and-not-left _ _ e
 
-  pub chk-before : (get_or slots 5 no_place).given ≡ true → last_only key_chk (keys_in all) ≡ false
+  pub chk-before : (is_some (get_or slots 5 no_place)) ≡ true → last_only key_chk (keys_in all) ≡ false
   chk-before e = r.last ∙ if_yes _ _ _ e
 
-  pub key-again : reserved key ≡ true → (get_or slots (key_place key) no_place).given ≡ true → all_differ (reserved_among (keys_in all)) ≡ false
+  pub key-again : reserved key ≡ true → (is_some (get_or slots (key_place key) no_place)) ≡ true → all_differ (reserved_among (keys_in all)) ≡ false
   unfolding reserved_among free
   key-again e f = r.once ∙ rw e (and-not-left _ _ (and-not-left _ _ (no_true _ f)))
 
@@ -146,7 +144,7 @@ module _ (all : List (List ℕ)) (slots : List Place) (h : Headers) (at : ℕ) (
   unfolding last_only reserved_keys
   last-past d = rw (at-differs 5 key (omega arith) d)
 
-  module _ (a : has equals w ≡ true) (c : (get_or slots 5 no_place).given ≡ false) where
+  module _ (a : has equals w ≡ true) (c : (is_some (get_or slots 5 no_place)) ≡ false) where
     assigned-past : every (has equals) all ≡ every (has equals) ws
     assigned-past = r.assigned ∙ and-next _ _ a
 
@@ -157,7 +155,6 @@ module _ (all : List (List ℕ)) (slots : List Place) (h : Headers) (at : ℕ) (
         let past = ltb-false (key_place key) 13 (sym (reserved-place key) ∙ e) in
         record {
           long = r.long;
-          blank = r.blank;
           slot = λ i l. r.slot i l ∙ ap (found (get_or slots i no_place)) (place-past i l (λ q. omega arith));
           assigned = assigned-past;
           once = r.once ∙ ap (fresh slots) (if_no _ _ _ e);
@@ -166,11 +163,11 @@ module _ (all : List (List ℕ)) (slots : List Place) (h : Headers) (at : ℕ) (
         }
 
     -- a reserved key more
-    module _ (e : reserved key ≡ true) (f : (get_or slots (key_place key) no_place).given ≡ false) where
-      abbrev here : Place
-      here = record { given = true; start = at + length key + 1; len = length (after equals w) }
+    module _ (e : reserved key ≡ true) (f : (is_some (get_or slots (key_place key) no_place)) ≡ false) where
+      abbrev here : Option Place
+      here = place_at (at + length key + 1) (length (after equals w))
 
-      abbrev more : List Place
+      abbrev more : List (Option Place)
       more = set slots (key_place key) here
 
       inside : key_place key < 13
@@ -188,32 +185,25 @@ module _ (all : List (List ℕ)) (slots : List Place) (h : Headers) (at : ℕ) (
           let s = eqb-true (key_place key) i q in
           let k : key_at i ≡ key = ap key_at (sym s) ∙ key-at key inside in
           r.slot i l
-          ∙ if_no _ _ _ (ap (λ (j : ℕ). (get_or slots j no_place).given) (sym s) ∙ f)
+          ∙ if_no _ _ _ (ap (λ (j : ℕ). (is_some (get_or slots j no_place))) (sym s) ∙ f)
           ∙ if_yes _ _ _ (ap (λ (x : List ℕ). same x key) k ∙ same_refl key)
-          ∙ sym (ap (λ (j : ℕ). found (get_or more j no_place) (place_from next ws (key_at i))) (sym s) ∙ ap (λ (p : Place). found p (place_from next ws (key_at i))) more-here)
+          ∙ sym (ap (λ (j : ℕ). found (get_or more j no_place) (place_from next ws (key_at i))) (sym s) ∙ ap (λ (p : Option Place). found p (place_from next ws (key_at i))) more-here)
       more-slot i l false q =
           let d = eqb-false (key_place key) i q in
-          r.slot i l ∙ ap (found (get_or slots i no_place)) (place-past i l d) ∙ ap (λ (p : Place). found p (place_from next ws (key_at i))) (sym (more-other i d))
-
-      more-blank : (i : ℕ) → (b : Bool) → (key_place key =? i) ≡ b → (get_or more i no_place).given ≡ false → i < 13 → get_or more i no_place ≡ no_place
-      more-blank i true q g l =
-          true-not-false (get_or more i no_place).given (ap (λ (j : ℕ). (get_or more j no_place).given) (sym (eqb-true (key_place key) i q)) ∙ ap (λ (p : Place). p.given) more-here) g
-      more-blank i false q g l =
-          let d = eqb-false (key_place key) i q in
-          more-other i d ∙ r.blank i (ap (λ (p : Place). p.given) (sym (more-other i d)) ∙ g) l
+          r.slot i l ∙ ap (found (get_or slots i no_place)) (place-past i l d) ∙ ap (λ (p : Option Place). found p (place_from next ws (key_at i))) (sym (more-other i d))
 
       free_more : (x : List ℕ) → free more x ≡ free slots x and no (same key x)
       unfolding free
       free_more x = go (same key x) refl
         where
-          go : (b : Bool) → same key x ≡ b → no (get_or more (key_place x) no_place).given ≡ no (get_or slots (key_place x) no_place).given and no b
+          go : (b : Bool) → same key x ≡ b → no (is_some (get_or more (key_place x) no_place)) ≡ no (is_some (get_or slots (key_place x) no_place)) and no b
           go true q =
-              ap (λ (k : List ℕ). no (get_or more (key_place k) no_place).given) (sym (same-eq key x q))
-              ∙ ap (λ (p : Place). no p.given) more-here
-              ∙ sym (and-not-right (no (get_or slots (key_place x) no_place).given) false refl)
+              ap (λ (k : List ℕ). no (is_some (get_or more (key_place k) no_place))) (sym (same-eq key x q))
+              ∙ ap (λ (p : Option Place). no (is_some p)) more-here
+              ∙ sym (and-not-right (no (is_some (get_or slots (key_place x) no_place))) false refl)
           go false q =
               let d : key_place key ≡ key_place x → ⊥ = λ s. true-not-false (same key x) (ap (same key) (sym (key-at x (rw s at inside)) ∙ ap key_at (sym s) ∙ key-at key inside) ∙ same_refl key) q in
-              ap (λ (p : Place). no p.given) (more-other (key_place x) d) ∙ sym (and-true (no (get_or slots (key_place x) no_place).given))
+              ap (λ (p : Option Place). no (is_some p)) (more-other (key_place x) d) ∙ sym (and-true (no (is_some (get_or slots (key_place x) no_place))))
 
       every_more : (ks : List (List ℕ)) → every (free more) ks ≡ every (free slots) ks and no (some (same key) ks)
       every_more [] = refl
@@ -230,7 +220,7 @@ module _ (all : List (List ℕ)) (slots : List Place) (h : Headers) (at : ℕ) (
           ∙ regroup (every (free slots) ks) (no (some (same key) ks)) (all_differ ks)
           ∙ ap (λ (b : Bool). b and all_differ ks) (sym (every_more ks))
 
-      last_more : (b : Bool) → (key_place key =? 5) ≡ b → last_only key_chk (keys_in (w ∷ ws)) ≡ last_in (get_or more 5 no_place).given (keys_in ws)
+      last_more : (b : Bool) → (key_place key =? 5) ≡ b → last_only key_chk (keys_in (w ∷ ws)) ≡ last_in (is_some (get_or more 5 no_place)) (keys_in ws)
       unfolding last_only reserved_keys
       last_more true q =
           let s = eqb-true (key_place key) 5 q in
@@ -238,16 +228,15 @@ module _ (all : List (List ℕ)) (slots : List Place) (h : Headers) (at : ℕ) (
           ap (λ (x : List ℕ). (no (same x key) or none (keys_in ws)) and last_only key_chk (keys_in ws)) k
           ∙ ap (λ (b : Bool). (no b or none (keys_in ws)) and last_only key_chk (keys_in ws)) (same_refl key)
           ∙ none_last (keys_in ws)
-          ∙ sym (if_yes _ _ _ (ap (λ (j : ℕ). (get_or more j no_place).given) (sym s) ∙ ap (λ (p : Place). p.given) more-here))
+          ∙ sym (if_yes _ _ _ (ap (λ (j : ℕ). (is_some (get_or more j no_place))) (sym s) ∙ ap (λ (p : Option Place). (is_some p)) more-here))
       last_more false q =
           let d = eqb-false (key_place key) 5 q in
-          last-past d ∙ sym (if_no _ _ _ (ap (λ (p : Place). p.given) (more-other 5 d) ∙ c))
+          last-past d ∙ sym (if_no _ _ _ (ap (λ (p : Option Place). (is_some p)) (more-other 5 d) ∙ c))
 
       pub walk-reserved : Walked all more h next ws
       unfolding reserved_among gather push_of
       walk-reserved = record {
         long = length-set slots (key_place key) here ∙ r.long;
-        blank = λ i. more-blank i (key_place key =? i) refl;
         slot = λ i l. more-slot i l (key_place key =? i) refl;
         assigned = assigned-past;
         once = r.once ∙ ap (fresh slots) (if_yes _ _ _ e) ∙ once_more (reserved_among (keys_in ws));
@@ -263,41 +252,38 @@ map_at f (x ∷ l) zero d e h = refl
 map_at f (x ∷ l) (suc i) d e h = map_at f l i d e (omega arith)
 
 -- a slot that nothing is to be found for any more
-settled : (p : Place) → (p.given ≡ false → p ≡ no_place) → p ≡ found p no_place
-settled p f = go p.given refl
-  where
-    go : (b : Bool) → p.given ≡ b → p ≡ (if b then p else no_place)
-    go true e = refl
-    go false e = f e
+settled : (p : Option Place) → p ≡ found p no_place
+settled None = refl
+settled (Some q) = refl
 
 module _ (t : List ℕ) where
-  bad : places_good t ≡ false → (r : Places) → r ≡ no_places → r ≡ places_of t
+  bad : places_good t ≡ false → None ≡ places_of t
   unfolding places_of
-  bad e r q = q ∙ sym (if_no _ _ _ e)
+  bad e = sym (if_no _ _ _ e)
 
-  pub bad-word : every (has equals) (words t) ≡ false → (r : Places) → r ≡ no_places → r ≡ places_of t
+  pub bad-word : every (has equals) (words t) ≡ false → None ≡ places_of t
   unfolding places_good
   bad-word e = bad (and-not-left _ _ e)
 
-  pub bad-once : all_differ (reserved_among (keys (tokens t))) ≡ false → (r : Places) → r ≡ no_places → r ≡ places_of t
+  pub bad-once : all_differ (reserved_among (keys (tokens t))) ≡ false → None ≡ places_of t
   unfolding places_good
   bad-once e = bad (and-not-right (every (has equals) (words t)) _ (and-not-left _ _ e))
 
-  pub bad_last : last_only key_chk (keys (tokens t)) ≡ false → (r : Places) → r ≡ no_places → r ≡ places_of t
+  pub bad_last : last_only key_chk (keys (tokens t)) ≡ false → None ≡ places_of t
   unfolding places_good
   bad_last e = bad (and-not-right (every (has equals) (words t)) _ (and-not-right (all_differ (reserved_among (keys (tokens t)))) _ (and-not-left _ _ e)))
 
-  pub bad-headers : headers_fit (tokens t) ≡ false → (r : Places) → r ≡ no_places → r ≡ places_of t
+  pub bad-headers : headers_fit (tokens t) ≡ false → None ≡ places_of t
   unfolding places_good
   bad-headers e = bad (and-not-right (every (has equals) (words t)) _ (and-not-right (all_differ (reserved_among (keys (tokens t)))) _ (and-not-right (last_only key_chk (keys (tokens t))) _ e)))
 
-  pub walk_end : (slots : List Place) (h : Headers) (at : ℕ) → Walked (words t) slots h at [] → record { good = true; slots = slots; headers = h } ≡ places_of t
+  pub walk_end : (slots : List (Option Place)) (h : Headers) (at : ℕ) → Walked (words t) slots h at [] → Some (record { slots = slots; headers = h }) ≡ places_of t
   unfolding places_of places_good place_from reserved_among all_differ last_only gather gathered_of
   walk_end slots h at r =
       let f = fit-told (headers_fit (tokens t)) (headers_of (others (tokens t))) h r.heads in
-      let e = and_both _ _ r.assigned (and_both _ _ r.once (and_both _ _ (r.last ∙ nothing (get_or slots 5 no_place).given) f.0)) in
+      let e = and_both _ _ r.assigned (and_both _ _ r.once (and_both _ _ (r.last ∙ nothing (is_some (get_or slots 5 no_place))) f.0)) in
       let s : slots ≡ map (place_from 0 (words t)) reserved_keys = ext_get_or no_place slots (map (place_from 0 (words t)) reserved_keys) (r.long ∙ sym (length-map reserved_keys (place_from 0 (words t)) ∙ counts.1))
-      (λ i l. let k : i < 13 = omega (arith, r.long) in settled (get_or slots i no_place) (λ g. r.blank i g k) ∙ sym (at_key i k ∙ r.slot i k)) in
+      (λ i l. let k : i < 13 = omega (arith, r.long) in settled (get_or slots i no_place) ∙ sym (at_key i k ∙ r.slot i k)) in
       rw (s, sym f.1) (sym (if_yes _ _ _ e))
     where
       nothing : (b : Bool) → (if b then true else true) ≡ true

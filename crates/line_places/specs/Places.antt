@@ -1,24 +1,24 @@
 -- Document 01, "The ihave line": where the values of the reserved keys stand in the text of a line's tokens.
-use Rattle.std.specs.Prelude.{ℕ, ◌+◌, Bool, true, false, List, [], ◌∷◌, map, length, take, drop, replicate, if◌then◌else◌}
+use Rattle.std.specs.Prelude.{ℕ, ◌+◌, Bool, List, [], ◌∷◌, map, length, take, drop, Option, Some, None, if◌then◌else◌}
+use Rattle.std.specs.Option.{option_map}
 use Rattle.octets.specs.Words.{◌and◌, every}
 use Rattle.octets.specs.Bytes.{same}
 use Rattle.names.specs.Reserved.{reserved, reserved_keys, key_chk}
 use Rattle.headers.specs.Keys.{all_differ}
-use Rattle.envelope.specs.Texts.{no_headers}
 use Rattle.tokens.specs.Cuts.{has, before, after}
 use Rattle.tokens.specs.Tokens.{words, tokens, keys, others, last_only, equals}
 use Rattle.line_places.specs.Headers.{headers_fit, headers_of}
 use Rattle.line_places.specs.declared.Place.{Place}
 use Rattle.line_places.specs.declared.Places.{Places}
 
-abbrev pub no_place : Place
-no_place = record { given = false; start = 0; len = 0 }
+abbrev pub no_place : Option Place
+no_place = None
 
-abbrev pub place_at : ℕ → ℕ → Place
-place_at start len = record { given = true; start = start; len = len }
+abbrev pub place_at : ℕ → ℕ → Option Place
+place_at start len = Some (record { start = start; len = len })
 
 -- the place of a key's value among words of which the first begins at the place `at`: behind the `=` of the first word with the key
-unfoldable pub place_from : ℕ → List (List ℕ) → List ℕ → Place
+unfoldable pub place_from : ℕ → List (List ℕ) → List ℕ → Option Place
 place_from at [] k = no_place
 place_from at (w ∷ ws) k =
     if same k (before equals w)
@@ -26,8 +26,8 @@ place_from at (w ∷ ws) k =
     else place_from (at + length w + 1) ws k
 
 -- what stands at a place of a text
-abbrev pub value_at : List ℕ → Place → List ℕ
-value_at t p = take p.len (drop p.start t)
+abbrev pub value_at : List ℕ → Option Place → Option (List ℕ)
+value_at t p = option_map (λ (q : Place). take q.len (drop q.start t)) p
 
 -- those of the keys that are reserved
 unfoldable pub reserved_among : List (List ℕ) → List (List ℕ)
@@ -42,12 +42,9 @@ places_good t =
     and (last_only key_chk (keys (tokens t))
     and headers_fit (tokens t)))
 
--- the answer: the place of each reserved key in the table's order, and the headers; blank where the rules do not hold
-unfoldable pub no_places : Places
-no_places = record { good = false; slots = replicate 13 no_place; headers = no_headers }
-
-unfoldable pub places_of : List ℕ → Places
+-- the answer: the place of each reserved key in the table's order, and the headers; none where the rules do not hold
+unfoldable pub places_of : List ℕ → Option Places
 places_of t =
     if places_good t
-    then record { good = true; slots = map (place_from 0 (words t)) reserved_keys; headers = headers_of (others (tokens t)) }
-    else no_places
+    then Some (record { slots = map (place_from 0 (words t)) reserved_keys; headers = headers_of (others (tokens t)) })
+    else None

@@ -1,118 +1,75 @@
-// Document 01, "The ihave line": the text of a line's tokens, read in one pass. Each word is cut once and its key looked up in the table of
-// the reserved keys: the place of its value is kept there, and every other key is a header.
+// The text of a line's tokens, read in one pass. Each word is cut once and its key looked up in the table of the reserved keys: the place of
+// its value is kept there, and every other key is a header.
 #![tactic(auto)]
 
-ghost use Rattle.std.specs.Prelude.{◌≡◌, ◌-◌, ◌≤◌, length, take, drop};
-ghost use Rattle.line_places.specs.Places.{no_place, place_at, no_places, places_of, value_at};
+ghost use Rattle.std.specs.Prelude.{◌≡◌};
+ghost use Rattle.std.specs.Option.{option_map};
+ghost use Rattle.line_places.specs.Places.{places_of, value_at};
 
 use headers::Headers;
 
-// Where the value of a key stands in the text, and whether the key is there at all.
+// Where the value of a key stands in the text.
 #[derive(Clone, Copy)]
 pub struct Place {
-    pub given: bool,
     pub start: usize,
     pub len: usize,
 }
 
-// The places of the reserved keys in the order of their table, and the headers.
+// The places of the reserved keys that are there, in the order of their table, and the headers.
 #[derive(Clone, Copy)]
 pub struct Places {
-    pub good: bool,
-    pub slots: [Place; 13],
+    pub slots: [Option<Place>; 13],
     pub headers: Headers,
 }
 
-fn no_place() -> Place
-    ensures { result ≡ no_place }
-{
-    Place {
-        given: false,
-        start: 0,
-        len: 0,
-    }
-}
-
-fn place_at(start: usize, len: usize) -> Place
-    ensures { result ≡ place_at start len }
-{
-    Place {
-        given: true,
-        start,
-        len,
-    }
-}
-
-// The answer where the rules do not hold.
-fn malformed() -> Places
-    ensures { result ≡ no_places }
-{
-    let none = no_place();
-    let headers = held_texts::no_headers();
-    Places {
-        good: false,
-        slots: [none; 13],
-        headers,
-    }
-}
-
-// What stands past the first n bytes.
-fn past(s: &[u8], n: usize) -> &[u8]
-    requires { n ≤ length s.now }
-    ensures { result.now ≡ take (length s.now - n) (drop n s.now) }
-{
-    &s[n..]
-}
-
-// The places of all values, where the rules of the words hold.
-pub fn read_places(t: &[u8]) -> Places
+// The places of all values; none where the rules of the words do not hold.
+pub fn read_places(t: &[u8]) -> Option<Places>
     ensures { result ≡ places_of t.now }
 {
-    let none = no_place();
-    let mut slots = [none; 13];
+    let mut slots = [None; 13];
     let mut headers = held_texts::no_headers();
     let mut at = 0;
+    // A place is counted from the text's start, which an iterator over its words does not tell.
     while at <= t.len() {
-        let word = tokens::before_byte(past(t, at), b' ');
+        let word = tokens::before_byte(&t[at..], b' ');
         let n = tokens::bytes_before(word, b'=');
         let chk = slots[names::CHK];
-        if !line_words::may_stand(chk.given, n, word.len()) {
-            return malformed();
+        if !line_words::may_stand(chk.is_some(), n, word.len()) {
+            return None;
         }
         let start = at + n + 1;
-        let key = lengths::part(word, n);
-        let value = past(word, n + 1);
-        at = at + word.len() + 1;
+        let key = &word[..n];
+        let value = &word[n + 1..];
+        at += word.len() + 1;
         let k = names::reserved_place(key);
         if k < 13 {
             let p = slots[k];
-            if p.given {
-                return malformed();
+            if p.is_some() {
+                return None;
             }
-            slots[k] = place_at(start, value.len());
+            slots[k] = Some(Place {
+                start,
+                len: value.len(),
+            });
             continue;
         }
         let m = headers.count;
         if !line_words::header_fits(m, value.len()) {
-            return malformed();
+            return None;
         }
         headers.items[m] = envelope::header_text(key, value);
         headers.count = m + 1;
     }
-    Places {
-        good: true,
-        slots,
-        headers,
-    }
+    Some(Places { slots, headers })
 }
 
 // The value at a place of the text.
-pub fn value(t: &[u8], p: Place) -> &[u8]
-    ensures { result.now ≡ value_at t.now p }
+pub fn value(t: &[u8], p: Option<Place>) -> Option<&[u8]>
+    ensures { option_map (λ r. r.now) result ≡ value_at t.now p }
 {
-    let a = p.start;
-    if t.len() < a {
-        return &t[0..0];
+    let p = p?;
+    if t.len() < p.start {
+        return Some(&[]);
     }
-    lengths::part(&t[a..], p.len)
+    Some(lengths::part(&t[p.start..], p.len))
 }

@@ -1,13 +1,14 @@
 -- THEOREMS: what was read from an accepted line is valid and tidy; so if it is written, it is read back as the same message.
-use Rattle.std.specs.Prelude.{if◌then◌else◌}
+use Rattle.std.specs.Prelude.{Option, Some, None, if◌then◌else◌}
+use Rattle.std.specs.Option.{option_map}
 use Prim.Native.Nat.{ℕ, zero, suc, ◌≤◌, ◌<◌, ◌-◌}
-use mathlib.Core.Path.{◌≡◌, refl, ap, sym, ◌∙◌}
+use mathlib.Core.Path.{◌≡◌, refl, ap, sym, ◌∙◌, subst}
 use mathlib.Core.Bool.{Bool, true, false}
 use mathlib.Core.List.{List, [], ◌∷◌, ◌++◌, map}
 use native.Mathlib.Omega.{arith}
 use lib.ListN.{length, take, drop, replicate, length-append, length-drop, length-map, length-replicate}
 use lib.Seq.{take_at}
-use lib.IntN.{pos, neg_ℤ}
+use lib.IntN.{ℤ, pos, neg_ℤ}
 use mir.Syntax.{w64}
 use mir.Val.{SFits}
 use borrow.Author.Tests.{leb-true, ltb-true, ltb-false}
@@ -21,14 +22,14 @@ use Rattle.names.specs.Reserved.{key_s, key_dst, key_chk, key_ttl, key_src, key_
 use Rattle.headers.specs.Keys.{key_of}
 use Rattle.headers.specs.Rule.{value_of}
 use Rattle.envelope.specs.Texts.{fitted, padded, call_text, address_text, stream_text, header_text}
+use Rattle.envelope.specs.declared.Stream.{Stream}
 use Rattle.envelope.specs.Rules.{envelope}
-use Rattle.envelope.specs.Tidy.{tidy, tidy_header, tidy_headers}
-use Rattle.tokens.specs.Cuts.{before, after}
-use Rattle.tokens.specs.Tokens.{Token, tokens, present, value, others}
+use Rattle.envelope.specs.Tidy.{tidy_call, tidy_stream, tidy_header, tidy_headers, tidy}
+use Rattle.tokens.specs.Tokens.{Token, tokens, present, value, given, others}
 use Rattle.tokens.proofs.Lookups.{value-missing}
-use Rattle.line_values.specs.Values.{slash, is_part}
+use Rattle.line_values.specs.Values.{is_part}
 use Rattle.line_groups.specs.Rules.{alike, all_or_none, optional, deflated, payload_good, singles_good, fragment_good, stream_good}
-use Rattle.line_groups.specs.Answers.{len_of}
+use Rattle.line_groups.specs.Answers.{len_of, fragment_at, stream_at}
 use Rattle.line_places.specs.Headers.{headers_fit, header_of, headers_of}
 use Rattle.line.specs.Reading.{id_word, rest_of, is_text, framed, fields_of, line_of, values_good, well_formed, chk_right, refusal_of, read_as, read_of}
 use Rattle.line_writer.specs.Answer.{Written, write_answer, write_left}
@@ -101,14 +102,19 @@ pub held-text : (n : ℕ) (s : List ℕ) → take (length (fitted n s)) (padded 
 unfolding padded
 held-text n s = take_at (fitted n s) _ (length (fitted n s)) refl
 
-call-again : (v : List ℕ) → call_text (take (length (fitted 12 v)) (padded 12 (fitted 12 v))) ≡ call_text v
-call-again v = ap call_text (held-text 12 v) ∙ rw (fitted-again 12 v)
+call-again : (o : Option (List ℕ)) → option_map tidy_call (option_map call_text o) ≡ option_map call_text o
+call-again None = refl
+call-again (Some v) = ap Some (ap call_text (held-text 12 v) ∙ rw (fitted-again 12 v))
 
 address-again : (v : List ℕ) → address_text (take (length (fitted 45 v)) (padded 45 (fitted 45 v))) ≡ address_text v
 address-again v = ap address_text (held-text 45 v) ∙ rw (fitted-again 45 v)
 
-stream-again : (v : List ℕ) → stream_text (take (length (fitted 255 v)) (padded 255 (fitted 255 v))) ≡ stream_text v
-stream-again v = ap stream_text (held-text 255 v) ∙ rw (fitted-again 255 v)
+text-again : (v : List ℕ) → stream_text (take (length (fitted 255 v)) (padded 255 (fitted 255 v))) ≡ stream_text v
+text-again v = ap stream_text (held-text 255 v) ∙ rw (fitted-again 255 v)
+
+stream-again : (sn gt : List ℕ) (o : Option (List ℕ)) → option_map tidy_stream (option_map (λ v. stream_at v sn gt) o) ≡ option_map (λ v. stream_at v sn gt) o
+stream-again sn gt None = refl
+stream-again sn gt (Some v) = λ i. Some (record { sid = text-again v i; sn = number sn; gt = number gt })
 
 header-again : (t : Token) → tidy_header (header_of t) ≡ header_of t
 unfolding key_of value_of
@@ -124,11 +130,20 @@ headers-again os =
     let k : take (length os) (map header_of os ++ drop (length (map header_of os)) (replicate 8 (header_text [] []))) ≡ map header_of os = take_at (map header_of os) _ (length os) (length-map os header_of) in
     rw k (rw (each_again os))
 
--- ---- a value that is missing is empty
+-- ---- what a value that is there says
 
-missing : {A : Type 0} (f : List ℕ → A) (d : A) → f [] ≡ d → (k : List ℕ) (ts : List Token) (b : Bool) → present k ts ≡ b → (if b then f (value k ts) else d) ≡ f (value k ts)
-missing f d e k ts true g = refl
-missing f d e k ts false g = sym (ap f (value-missing k ts g) ∙ e)
+said-by : {A : Type 0} (rule : List ℕ → Bool) (f : List ℕ → A) (k : List ℕ) (ts : List Token) (x : A) → optional k rule ts ≡ true → option_map f (given k ts) ≡ Some x
+    → (rule (value k ts) ≡ true) × (f (value k ts) ≡ x)
+said-by rule f k ts x e q = go (present k ts) e q
+  where
+    go : (b : Bool) → (if b then rule (value k ts) else true) ≡ true → option_map f (if b then Some (value k ts) else None) ≡ Some x → (rule (value k ts) ≡ true) × (f (value k ts) ≡ x)
+    go true e q = (e, cc)
+    go false e q = cc
+
+-- a stream's numbers
+numbers-said : (sn gt : List ℕ) (t : Stream) (o : Option (List ℕ)) → option_map (λ v. stream_at v sn gt) o ≡ Some t → (t.sn ≡ number sn) × (t.gt ≡ number gt)
+numbers-said sn gt t None e = cc
+numbers-said sn gt t (Some v) e = let p : stream_at v sn gt ≡ t = cc in (sym (ap (λ (x : Stream). x.sn) p), sym (ap (λ (x : Stream). x.gt) p))
 
 alike_same : (a b : Bool) → alike a b ≡ true → a ≡ b
 alike_same true b e = sym e
@@ -167,23 +182,17 @@ module _ (s : List ℕ) (ok : refusal_of s ≡ 0) where
   sid-gt = alike_same (present key_sid ts) (present key_gt ts) (and_right (alike (present key_sid ts) (present key_sn ts)) _ together)
 
   pub accepted-tidy : tidy (line_of s).fields ≡ (line_of s).fields
-  unfolding line_of fields_of tidy before after digits.value
-  accepted-tidy =
-      rw (
-        call-again (value key_src ts),
-        stream-again (value key_sid ts),
-        address-again (value key_dst ts),
-        headers-again (others ts),
-        missing signed (pos 0) refl key_s ts (present key_s ts) refl,
-        missing number 0 refl key_ttl ts (present key_ttl ts) refl,
-        missing call_text (call_text []) refl key_src ts (present key_src ts) refl,
-        missing hex_value 0 refl key_mid ts (present key_mid ts) refl,
-        missing stream_text (stream_text []) refl key_sid ts (present key_sid ts) refl,
-        missing (λ v. number (before slash v)) 0 refl key_frag ts (present key_mid ts) (sym mid-frag),
-        missing (λ v. number (after slash v)) 0 refl key_frag ts (present key_mid ts) (sym mid-frag),
-        missing number 0 refl key_sn ts (present key_sid ts) (sym sid-sn),
-        missing number 0 refl key_gt ts (present key_sid ts) (sym sid-gt),
-      )
+  unfolding line_of fields_of tidy
+  accepted-tidy = λ i. record {
+    id = hex_value (id_word s);
+    salt = option_map signed (given key_s ts);
+    ttl = option_map number (given key_ttl ts);
+    src = call-again (given key_src ts) i;
+    fragment = option_map (λ v. fragment_at v (value key_frag ts)) (given key_mid ts);
+    stream = stream-again (value key_sn ts) (value key_gt ts) (given key_sid ts) i;
+    headers = headers-again (others ts) i;
+    dst = address-again (value key_dst ts) i;
+  }
 
   -- ---- they are a value of the code's type
 
@@ -209,13 +218,12 @@ module _ (s : List ℕ) (ok : refusal_of s ≡ 0) where
       go true g f = leb-true (number (value k ts)) limit (and_right (is_decimal (value k ts)) (number (value k ts) ≤? limit) f)
       go false g f = let z : number (value k ts) ≡ 0 = ap number (value-missing k ts g) in omega arith
 
-  salt-within : SFits w64 (signed (value key_s ts))
-  unfolding singles_good digits.value
-  salt-within = go (present key_s ts) refl (and_left (optional key_s is_signed ts) (optional key_ttl (is_number 2147483647) ts and optional key_chk (is_hex 4) ts) (kept s ok).singles)
-    where
-      go : (b : Bool) → present key_s ts ≡ b → (if b then is_signed (value key_s ts) else true) ≡ true → SFits w64 (signed (value key_s ts))
-      go true g f = fits_signed (value key_s ts) f
-      go false g f = rw (value-missing key_s ts g) (record { sfits = omega arith })
+  salt-within : (z : ℤ) → option_map signed (given key_s ts) ≡ Some z → SFits w64 z
+  unfolding singles_good
+  salt-within z q =
+      let e = and_left (optional key_s is_signed ts) (optional key_ttl (is_number 2147483647) ts and optional key_chk (is_hex 4) ts) (kept s ok).singles in
+      let h = said-by is_signed signed key_s ts z e q in
+      subst (λ x. SFits w64 x) h.1 (fits_signed (value key_s ts) h.0)
 
   numbers-good : numbers ≡ true
   unfolding stream_good
@@ -232,8 +240,8 @@ module _ (s : List ℕ) (ok : refusal_of s ≡ 0) where
   accepted-typed = record {
     eight = items-eight;
     salt-fits = salt-within;
-    sn-fits = let l = within 4294967295 key_sn (and_left (optional key_sn (is_number 4294967295) ts) _ numbers-good) in omega arith;
-    gt-fits = let l = within 4294967295 key_gt (and_right (optional key_sn (is_number 4294967295) ts) _ numbers-good) in omega arith;
+    sn-fits = λ t q. let h = numbers-said (value key_sn ts) (value key_gt ts) t (given key_sid ts) q in let l = within 4294967295 key_sn (and_left (optional key_sn (is_number 4294967295) ts) _ numbers-good) in omega (arith, h.0);
+    gt-fits = λ t q. let h = numbers-said (value key_sn ts) (value key_gt ts) t (given key_sid ts) q in let l = within 4294967295 key_gt (and_right (optional key_sn (is_number 4294967295) ts) _ numbers-good) in omega (arith, h.1);
   }
 
   -- ---- written, it is read back as the same message

@@ -8,7 +8,7 @@ use native.Mathlib.Omega.{arith}
 use borrow.Author.Tests.{le-leb, leb-true, le-ltb}
 use lib.ListN.{length, length-append}
 use Rattle.octets.specs.Words.{◌and◌, ◌≤?◌, every}
-use Rattle.octets.specs.Bytes.{front, same}
+use Rattle.octets.specs.Bytes.{front}
 use Rattle.octets.proofs.Tests.{and_both, and_left, if_no, no_true}
 use Rattle.utf8.specs.Utf8.{utf8}
 use Rattle.refusals.specs.Numbers.{longest_payload}
@@ -63,5 +63,5 @@ module _ (s : List ℕ) (ok : refusal_of s ≡ 0) (ordered : InOrder (tokens (re
 
 -- there are such lines, 000's among them
 pub ordered-there : (refusal_of 'with-chk' ≡ 0) × InOrder (tokens (rest_of 'with-chk'))
-unfolding same before after split present others reserved reserved_keys
+unfolding before after split present others reserved reserved_keys
 ordered-there = (with-chk, refl)

@@ -10,6 +10,7 @@ use Rattle.octets.proofs.Tests.{and_left, and_right, and_both, or_left, true-not
 use Rattle.utf8.specs.Utf8.{utf8, run}
 use Rattle.names.specs.Texts.{text_byte, ruled}
 use Rattle.tokens.specs.Cuts.{has, before, after, split}
+use Rattle.tokens.proofs.Parts.{before-cons, after-cons}
 use Rattle.tokens.specs.Tokens.{Token, token_of, word_of, spaced, space, equals}
 use Rattle.line.specs.Reading.{plain}
 use Rattle.line_trip.proofs.Texts.{every_append, every-by, utf8_append}
@@ -30,12 +31,12 @@ module _ (c : ℕ) where
   pub before_at : (w r : List ℕ) → has c w ≡ false → before c (w ++ (c ∷ r)) ≡ w
   unfolding has before
   before_at [] r h = rw (eq-eqb c c refl)
-  before_at (x ∷ w) r h = let e = or_no (x =? c) (has c w) h in rw (e.0, before_at w r e.1)
+  before_at (x ∷ w) r h = let e = or_no (x =? c) (has c w) h in rw (before-cons c x (w ++ (c ∷ r)), e.0, before_at w r e.1)
 
   pub after-at : (w r : List ℕ) → has c w ≡ false → after c (w ++ (c ∷ r)) ≡ r
   unfolding has after
   after-at [] r h = rw (eq-eqb c c refl)
-  after-at (x ∷ w) r h = let e = or_no (x =? c) (has c w) h in rw (e.0, after-at w r e.1)
+  after-at (x ∷ w) r h = let e = or_no (x =? c) (has c w) h in rw (after-cons c x (w ++ (c ∷ r)), e.0, after-at w r e.1)
 
   pub has-at : (w r : List ℕ) → has c (w ++ (c ∷ r)) ≡ true
   unfolding has

@@ -1,5 +1,6 @@
 -- Keys looked up among the tokens that are written: each choice says whether its key is there, and headers are passed by.
-use Rattle.std.specs.Prelude.{if◌then◌else◌}
+use Rattle.std.specs.Prelude.{Option, Some, None, if◌then◌else◌}
+use Rattle.std.specs.Option.{is_some, option_map, option_or, option_to_list}
 use Prim.Native.Nat.{ℕ, zero, suc, ◌<◌}
 use mathlib.Core.Path.{◌≡◌, refl, ap, sym, ◌∙◌}
 use mathlib.Core.Bool.{Bool, true, false}
@@ -12,7 +13,10 @@ use Rattle.octets.proofs.Tests.{if_yes, if_no, and_left, and_right, and_both, or
 use Rattle.octets.proofs.Lists.{same-eq}
 use Rattle.names.specs.Reserved.{reserved}
 use Rattle.headers.specs.Keys.{all_differ}
-use Rattle.tokens.specs.Tokens.{Token, keys, present, value, others, none, last_only}
+use Rattle.envelope.specs.Rules.{if_some}
+use Rattle.tokens.specs.Tokens.{Token, token, keys, present, value, given, others, none, last_only}
+use Rattle.line_values.specs.Values.{text_of}
+use Rattle.line_fields.proofs.Groups.{given-some, given-text}
 use Rattle.line.specs.Writing.{Choice, chosen}
 use Rattle.line_trip.proofs.Cuts.{sound}
 
@@ -20,59 +24,46 @@ pub not-no : (a : Bool) → no a ≡ true → a ≡ false
 not-no true e = true-not-false false e refl
 not-no false e = refl
 
-pub by-test : {A : Type 0} (P : A → Type 0) (t : Bool) (a b : A) → (t ≡ true → P a) → (t ≡ false → P b) → P (if t then a else b)
-by-test P true a b f g = f refl
-by-test P false a b f g = g refl
+-- ---- what the value that is found says of its key
 
--- ---- among choices, whose keys are known: then what stands behind them
+module _ (k : List ℕ) (ts : List Token) (o : Option (List ℕ)) (e : given k ts ≡ o) where
+  pub present-is : present k ts ≡ is_some o
+  present-is = sym (given-some k ts) ∙ ap (λ (v : Option (List ℕ)). is_some v) e
 
-abbrev pub given_in : List ℕ → List Choice → Bool → Bool
+  pub value_is : value k ts ≡ text_of o
+  value_is = sym (given-text k ts) ∙ ap (λ (v : Option (List ℕ)). text_of v) e
+
+-- ---- among choices, whose keys are known: the first value of the key, then what stands behind them
+
+abbrev pub given_in : List ℕ → List Choice → Option (List ℕ) → Option (List ℕ)
 given_in k [] d = d
-given_in k (o ∷ os) d = if same k o.what.key then (if o.on then true else given_in k os d) else given_in k os d
+given_in k (o ∷ os) d = if same k o.key then option_or o.text (given_in k os d) else given_in k os d
 
-abbrev pub value_in : List ℕ → List Choice → List ℕ → List ℕ
-value_in k [] d = d
-value_in k (o ∷ os) d = if same k o.what.key then (if o.on then o.what.value else value_in k os d) else value_in k os d
-
-chosen-cons : (o : Choice) (os : List Choice) (ts : List Token) → chosen (o ∷ os) ++ ts ≡ (if o.on then (o.what ∷ (chosen os ++ ts)) else (chosen os ++ ts))
-unfolding chosen
-chosen-cons o os ts = go o.on
+given-cons : (k : List ℕ) (t : Token) (ts : List Token) → given k (t ∷ ts) ≡ (if same k t.key then Some t.value else given k ts)
+unfolding present value
+given-cons k t ts = go (same k t.key)
   where
-    go : (b : Bool) → (if b then (o.what ∷ chosen os) else chosen os) ++ ts ≡ (if b then (o.what ∷ (chosen os ++ ts)) else (chosen os ++ ts))
+    go : (b : Bool) → (if b or present k ts then Some (if b then t.value else value k ts) else None) ≡ (if b then Some t.value else given k ts)
     go true = refl
     go false = refl
 
-present-step : (k : List ℕ) (o : Choice) (ts : List Token)
-    → present k (if o.on then (o.what ∷ ts) else ts) ≡ (if same k o.what.key then (if o.on then true else present k ts) else present k ts)
-unfolding present
-present-step k o ts = go o.on (same k o.what.key) refl
-  where
-    go : (b s : Bool) → same k o.what.key ≡ s → present k (if b then (o.what ∷ ts) else ts) ≡ (if s then (if b then true else present k ts) else present k ts)
-    go true true f = rw f
-    go true false f = rw f
-    go false true f = refl
-    go false false f = refl
+both : {A : Type 0} (b : Bool) (x : A) → x ≡ (if b then x else x)
+both true x = refl
+both false x = refl
 
-value-step : (k : List ℕ) (o : Choice) (ts : List Token)
-    → value k (if o.on then (o.what ∷ ts) else ts) ≡ (if same k o.what.key then (if o.on then o.what.value else value k ts) else value k ts)
-unfolding value
-value-step k o ts = go o.on (same k o.what.key) refl
-  where
-    go : (b s : Bool) → same k o.what.key ≡ s → value k (if b then (o.what ∷ ts) else ts) ≡ (if s then (if b then o.what.value else value k ts) else value k ts)
-    go true true f = rw f
-    go true false f = rw f
-    go false true f = refl
-    go false false f = refl
-
-pub present-chosen : (k : List ℕ) (os : List Choice) (ts : List Token) → present k (chosen os ++ ts) ≡ given_in k os (present k ts)
+pub given-chosen : (k : List ℕ) (os : List Choice) (ts : List Token) → given k (chosen os ++ ts) ≡ given_in k os (given k ts)
 unfolding chosen
-present-chosen k [] ts = refl
-present-chosen k (o ∷ os) ts = ap (present k) (chosen-cons o os ts) ∙ present-step k o (chosen os ++ ts) ∙ rw (present-chosen k os ts)
+given-chosen k [] ts = refl
+given-chosen k (o ∷ os) ts = go o.text (given-chosen k os ts)
+  where
+    go : (v : Option (List ℕ)) → given k (chosen os ++ ts) ≡ given_in k os (given k ts)
+        → given k ((option_to_list (option_map (token o.key) v) ++ chosen os) ++ ts) ≡ (if same k o.key then option_or v (given_in k os (given k ts)) else given_in k os (given k ts))
+    go None h = h ∙ both (same k o.key) (given_in k os (given k ts))
+    go (Some v) h = given-cons k (token o.key v) (chosen os ++ ts) ∙ ap (λ (d : Option (List ℕ)). if same k o.key then Some v else d) h
 
-pub value-chosen : (k : List ℕ) (os : List Choice) (ts : List Token) → value k (chosen os ++ ts) ≡ value_in k os (value k ts)
-unfolding chosen
-value-chosen k [] ts = refl
-value-chosen k (o ∷ os) ts = ap (value k) (chosen-cons o os ts) ∙ value-step k o (chosen os ++ ts) ∙ rw (value-chosen k os ts)
+pub or-none : {A : Type 0} (o : Option A) → option_or o None ≡ o
+or-none None = refl
+or-none (Some x) = refl
 
 -- ---- past headers, whose keys are not reserved
 
@@ -86,16 +77,9 @@ differs k t r f = go (same k t.key) refl
     go false e = refl
     go true e = true-not-false (reserved t.key) (ap reserved (sym (same-eq k t.key e)) ∙ r) (not-no (reserved t.key) f)
 
-module _ (k : List ℕ) (ts : List Token) (r : reserved k ≡ true) where
-  pub present-past : (hs : List Token) → every free hs ≡ true → present k (hs ++ ts) ≡ present k ts
-  unfolding present
-  present-past [] e = refl
-  present-past (h ∷ hs) e = or-next _ _ (differs k h r (and_left (free h) (every free hs) e)) ∙ present-past hs (and_right (free h) (every free hs) e)
-
-  pub value-past : (hs : List Token) → every free hs ≡ true → value k (hs ++ ts) ≡ value k ts
-  unfolding value
-  value-past [] e = refl
-  value-past (h ∷ hs) e = if_no _ _ _ (differs k h r (and_left (free h) (every free hs) e)) ∙ value-past hs (and_right (free h) (every free hs) e)
+pub given-past : (k : List ℕ) (ts : List Token) → reserved k ≡ true → (hs : List Token) → every free hs ≡ true → given k (hs ++ ts) ≡ given k ts
+given-past k ts r [] e = refl
+given-past k ts r (h ∷ hs) e = given-cons k h (hs ++ ts) ∙ if_no _ _ _ (differs k h r (and_left (free h) (every free hs) e)) ∙ given-past k ts r hs (and_right (free h) (every free hs) e)
 
 -- a key that is not reserved is none of the reserved ones
 pub some-no : (k : List ℕ) (ks : List (List ℕ)) (i : ℕ) → i < length ks → some (same k) ks ≡ false → same k (get_or ks i []) ≡ false
@@ -127,15 +111,15 @@ once-append (t ∷ a) b p q r =
 -- the choices' keys: no two the same, and none among the tokens behind
 abbrev pub any_key : List ℕ → List Choice → Bool
 any_key k [] = false
-any_key k (o ∷ os) = same k o.what.key or any_key k os
+any_key k (o ∷ os) = same k o.key or any_key k os
 
 abbrev pub clear : List Choice → List Token → Bool
 clear [] ts = true
-clear (o ∷ os) ts = no (any_key o.what.key os) and (no (present o.what.key ts) and clear os ts)
+clear (o ∷ os) ts = no (any_key o.key os) and (no (present o.key ts) and clear os ts)
 
-any-present : (k : List ℕ) (os : List Choice) (d : Bool) → any_key k os ≡ false → given_in k os d ≡ d
-any-present k [] d e = refl
-any-present k (o ∷ os) d e = let f = or_no (same k o.what.key) (any_key k os) e in rw f.0 (any-present k os d f.1)
+any-given : (k : List ℕ) (os : List Choice) (d : Option (List ℕ)) → any_key k os ≡ false → given_in k os d ≡ d
+any-given k [] d e = refl
+any-given k (o ∷ os) d e = let f = or_no (same k o.key) (any_key k os) e in if_no _ _ _ f.0 ∙ any-given k os d f.1
 
 once-cons : (t : Token) (ts : List Token) → present t.key ts ≡ false → once ts ≡ true → once (t ∷ ts) ≡ true
 unfolding all_differ present
@@ -145,13 +129,17 @@ pub once-chosen : (os : List Choice) (ts : List Token) → once ts ≡ true → 
 unfolding chosen
 once-chosen [] ts r e = r
 once-chosen (o ∷ os) ts r e =
-    let k = o.what.key in
+    let k = o.key in
     let a = not-no (any_key k os) (and_left (no (any_key k os)) (no (present k ts) and clear os ts) e) in
     let b = and_right (no (any_key k os)) (no (present k ts) and clear os ts) e in
     let f = not-no (present k ts) (and_left (no (present k ts)) (clear os ts) b) in
     let ih = once-chosen os ts r (and_right (no (present k ts)) (clear os ts) b) in
-    let g : present k (chosen os ++ ts) ≡ false = present-chosen k os ts ∙ any-present k os (present k ts) a ∙ f in
-    rw (chosen-cons o os ts) (by-test (λ l. once l ≡ true) o.on (o.what ∷ (chosen os ++ ts)) (chosen os ++ ts) (λ e. once-cons o.what (chosen os ++ ts) g ih) (λ e. ih))
+    let g = present-is k (chosen os ++ ts) (given k ts) (given-chosen k os ts ∙ any-given k os (given k ts) a) ∙ given-some k ts ∙ f in
+    go o.text g ih
+  where
+    go : (v : Option (List ℕ)) → present o.key (chosen os ++ ts) ≡ false → once (chosen os ++ ts) ≡ true → once ((option_to_list (option_map (token o.key) v) ++ chosen os) ++ ts) ≡ true
+    go None g ih = ih
+    go (Some v) g ih = once-cons (token o.key v) (chosen os ++ ts) g ih
 
 -- ---- the headers among the tokens
 
@@ -171,15 +159,16 @@ others-free (h ∷ hs) e =
     if_no _ _ _ (not-no (reserved h.key) (and_left (free h) (every free hs) e)) ∙ ap (λ (l : List Token). h ∷ l) (others-free hs (and_right (free h) (every free hs) e))
 
 abbrev pub reserved_choice : Choice → Bool
-reserved_choice o = reserved o.what.key
+reserved_choice o = reserved o.key
 
 pub others-chosen : (os : List Choice) → every reserved_choice os ≡ true → others (chosen os) ≡ []
 unfolding chosen others
 others-chosen [] e = refl
-others-chosen (o ∷ os) e =
-    let ih = others-chosen os (and_right (reserved_choice o) (every reserved_choice os) e) in
-    by-test (λ l. others l ≡ []) o.on (o.what ∷ chosen os) (chosen os)
-    (λ f. if_yes _ _ _ (and_left (reserved_choice o) (every reserved_choice os) e) ∙ ih) (λ f. ih)
+others-chosen (o ∷ os) e = go o.text (others-chosen os (and_right (reserved_choice o) (every reserved_choice os) e))
+  where
+    go : (v : Option (List ℕ)) → others (chosen os) ≡ [] → others (option_to_list (option_map (token o.key) v) ++ chosen os) ≡ []
+    go None ih = ih
+    go (Some v) ih = if_yes _ _ _ (and_left (reserved_choice o) (every reserved_choice os) e) ∙ ih
 
 pub last-only : (k : List ℕ) (a : List Token) (t : Token) → present k a ≡ false → last_only k (keys (a ++ (t ∷ []))) ≡ true
 unfolding present last_only
@@ -195,13 +184,13 @@ last-only k (u ∷ a) t e =
 -- ---- sound tokens
 
 abbrev pub sound_choice : Choice → Bool
-sound_choice o = if o.on then sound o.what else true
+sound_choice o = if_some (λ v. sound (token o.key v)) o.text
 
 pub sound-chosen : (os : List Choice) → every sound_choice os ≡ true → every sound (chosen os) ≡ true
 unfolding chosen
 sound-chosen [] e = refl
-sound-chosen (o ∷ os) e = go o.on (sound-chosen os (and_right (sound_choice o) (every sound_choice os) e)) (and_left (sound_choice o) (every sound_choice os) e)
+sound-chosen (o ∷ os) e = go o.text (sound-chosen os (and_right (sound_choice o) (every sound_choice os) e)) (and_left (sound_choice o) (every sound_choice os) e)
   where
-    go : (b : Bool) → every sound (chosen os) ≡ true → (if b then sound o.what else true) ≡ true → every sound (if b then (o.what ∷ chosen os) else chosen os) ≡ true
-    go true ih f = and_both (sound o.what) (every sound (chosen os)) f ih
-    go false ih f = ih
+    go : (v : Option (List ℕ)) → every sound (chosen os) ≡ true → if_some (λ v. sound (token o.key v)) v ≡ true → every sound (option_to_list (option_map (token o.key) v) ++ chosen os) ≡ true
+    go None ih f = ih
+    go (Some v) ih f = and_both (sound (token o.key v)) (every sound (chosen os)) f ih

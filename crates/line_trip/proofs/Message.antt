@@ -1,5 +1,6 @@
 -- The tokens of a message that is written: what each key is found to say among them, and that the rules of a line hold.
-use Rattle.std.specs.Prelude.{if◌then◌else◌}
+use Rattle.std.specs.Prelude.{Option, Some, None}
+use Rattle.std.specs.Option.{is_some, option_map}
 use Prim.Native.Nat.{ℕ, ◌-◌, ◌^◌, ◌<◌, ◌≤◌}
 use mathlib.Core.Path.{◌≡◌, refl, ap, sym, ◌∙◌}
 use mathlib.Core.Bool.{Bool, true, false}
@@ -7,17 +8,16 @@ use mathlib.Core.List.{List, [], ◌∷◌, ◌++◌, append_assoc, append-nil, 
 use native.Mathlib.Omega.{arith}
 use lib.ListN.{length, take, replicate, length-append, length-map}
 use lib.Seq.{take_at}
-use lib.IntN.{pos}
+use lib.IntN.{ℤ}
 use mir.Syntax.{w64}
 use mir.Val.{SFits}
 use borrow.Author.Tests.{le-leb, leb-true, le-ltb, eq-eqb}
-use Rattle.octets.specs.Words.{◌and◌, ◌or◌, no, ◌≤?◌, ◌<?◌, every}
+use Rattle.octets.specs.Words.{◌and◌, no, ◌≤?◌, ◌<?◌, every}
 use Rattle.octets.specs.Bytes.{same, front}
-use Rattle.octets.proofs.Tests.{if_yes, if_no, and_left, and_right, and_both, no_true, no_false, or_left}
+use Rattle.octets.proofs.Tests.{if_yes, if_no, and_left, and_right, and_both, no_true, no_false}
 use Rattle.octets.proofs.Lists.{same_refl}
 use Rattle.refusals.specs.Numbers.{longest_payload}
 use Rattle.utf8.specs.Utf8.{utf8, run}
-use Rattle.text.specs.Digits as numerals
 use Rattle.text.specs.Decimal.{number, is_number, decimal, is_signed, signed, signed_decimal}
 use Rattle.text.specs.Hex.{is_hex, hex_value, hex_digits}
 use Rattle.text.proofs.Numerals.{length_digits}
@@ -32,31 +32,36 @@ use Rattle.headers.specs.Rule.{value_of, header}
 use Rattle.headers.specs.declared.Header.{Header}
 use Rattle.crc16.specs.Crc.{crc16, start}
 use Rattle.crc16.proofs.Laws.{feed-lt}
+use Rattle.envelope.specs.declared.CallText.{CallText}
+use Rattle.envelope.specs.declared.Fragment.{Fragment}
+use Rattle.envelope.specs.declared.Stream.{Stream}
 use Rattle.envelope.specs.declared.Envelope.{Envelope}
 use Rattle.envelope.specs.Texts.{call_text, address_text, stream_text, header_text}
-use Rattle.envelope.specs.Rules.{call_bytes, address_bytes, stream_bytes, call_in, address_in, stream_in, ttl_in, fragment_in, id_in, envelope}
-use Rattle.envelope.specs.Tidy.{tidy_header, tidy_headers, tidy}
+use Rattle.envelope.specs.Rules.{call_bytes, address_bytes, stream_bytes, call_in, address_in, stream_in, ttl_in, fragment_in, if_some, envelope}
+use Rattle.envelope.specs.Rules as rules
+use Rattle.envelope.specs.Tidy.{tidy_stream, tidy_header, tidy_headers, tidy}
 use Rattle.tokens.specs.Cuts.{has, before, after}
-use Rattle.tokens.specs.Tokens.{Token, token, token_of, words, tokens, keys, present, value, others, last_only, keyed, word_of, spaced, space, equals}
-use Rattle.line_values.specs.Values.{slash, is_part}
-use Rattle.line_groups.specs.Rules.{alike, all_or_none, format_rule, 'p', 'd', deflated, payload_good, singles_good, fragment_good, stream_good}
-use Rattle.line_groups.specs.Answers.{len_of}
+use Rattle.tokens.specs.Tokens.{Token, token, token_of, words, tokens, keys, present, value, given, others, last_only, keyed, word_of, spaced, space, equals}
+use Rattle.line_values.specs.Values.{is_part, text_of}
+use Rattle.line_groups.specs.Rules.{alike, all_or_none, format_rule, optional, 'p', 'd', deflated, payload_good, singles_good, fragment_good, stream_good}
+use Rattle.line_groups.specs.Answers.{len_of, fragment_at, stream_at}
+use Rattle.line_fields.proofs.Groups.{given-some}
 use Rattle.line_places.specs.Headers.{short_value, headers_fit, header_of, headers_of}
 use Rattle.line.specs.Reading.{ihave, verb_word, id_word, rest_of, plain, is_text, framed, fields_of, line_of, values_good, well_formed, chk_right, refusal_of, read_of, read_as, Read}
-use Rattle.line.specs.Writing.{chosen, part_text, choices_of, header_token, header_tokens, dst_token, tokens_of, body_of, chk_token, print_of, message_good}
+use Rattle.line.specs.Writing.{chosen, mid_text, part_text, sid_text, sn_text, gt_text, choices_of, header_token, header_tokens, dst_token, tokens_of, body_of, chk_token, print_of, message_good}
 use Rattle.line.specs.declared.Line.{Line}
 use Rattle.line_trip.proofs.Texts.{every_append, every-by, ascii, utf8_append, ascii-ruled, decimal-ascii, hex-ascii, signed-ascii, callsign-ascii, destination-ascii}
 use Rattle.line_trip.proofs.Cuts.{before_at, after-at, visible, spaceless, words_back, spaced-plain, spaced-utf8, spaced-append, map-append, sound, ruled-visible, words-visible, tokens-back, all-equals}
-use Rattle.line_trip.proofs.Lookups.{not-no, given_in, value_in, present-chosen, value-chosen, free, present-past, value-past, some-no, once, apart, once-append, once-chosen, others-append, others-free, others-chosen, last-only, sound_choice, sound-chosen}
-use Rattle.line_trip.proofs.Values.{number_is, signed_is, id-back, PartMade, part-back, part-ascii, flag-back, read_back, rule-back, when-set}
+use Rattle.line_trip.proofs.Lookups.{not-no, present-is, value_is, given_in, given-chosen, or-none, free, given-past, some-no, once, apart, once-append, once-chosen, others-append, others-free, others-chosen, last-only, sound_choice, sound-chosen}
+use Rattle.line_trip.proofs.Values.{number_is, signed_is, id-back, part-ascii, part_is, fragment-back, some-map, map-map, read_back, rule-back, when-some}
 use Rattle.line_trip.proofs.Tidied.{good-header, few, each, differ, counted, Rules, rules-of, envelope-tidy}
 
 -- a value of the code's type: its array has eight headers, its numbers lie in their ranges
 pub record Typed (m : Line) : Type 0 where
   pub eight : length m.fields.headers.items ≡ 8
-  pub salt-fits : SFits w64 m.fields.salt
-  pub sn-fits : m.fields.sn < 2 ^ 32
-  pub gt-fits : m.fields.gt < 2 ^ 32
+  pub salt-fits : (z : ℤ) → m.fields.salt ≡ Some z → SFits w64 z
+  pub sn-fits : (t : Stream) → m.fields.stream ≡ Some t → t.sn < 2 ^ 32
+  pub gt-fits : (t : Stream) → m.fields.stream ≡ Some t → t.gt < 2 ^ 32
 
 -- ---- the line's words are found again
 
@@ -159,9 +164,9 @@ every_map : {A B : Type 0} (p : A → Bool) (q : B → Bool) (f : A → B) → (
 every_map p q f g [] e = refl
 every_map p q f g (x ∷ l) e = and_both (q (f x)) _ (g x (and_left (p x) (every p l) e)) (every_map p q f g l (and_right (p x) (every p l) e))
 
-map-map : (l : List Header) → map header_of (map header_token l) ≡ map tidy_header l
-map-map [] = refl
-map-map (h ∷ l) = ap (λ (x : List Header). tidy_header h ∷ x) (map-map l)
+tokens-tidy : (l : List Header) → map header_of (map header_token l) ≡ map tidy_header l
+tokens-tidy [] = refl
+tokens-tidy (h ∷ l) = ap (λ (x : List Header). tidy_header h ∷ x) (tokens-tidy l)
 
 keys-map : (l : List Header) → keys (map header_token l) ≡ map key_of l
 keys-map [] = refl
@@ -174,17 +179,37 @@ free-apart v w t h =
     let e = not-no (reserved t.key) h in
     no_false (present t.key (token key_dst v ∷ token key_chk w ∷ [])) (rw (some-no t.key reserved_keys 4 (omega arith) e, some-no t.key reserved_keys 5 (omega arith) e))
 
-choice-sound : (b : Bool) (k v : List ℕ) → ruled false k ≡ true → (b ≡ true → ruled true v ≡ true) → (if b then sound (token k v) else true) ≡ true
-unfolding sound
-choice-sound true k v e f = and_both (ruled false k) _ e (f refl)
-choice-sound false k v e f = refl
+module _ {A : Type 0} (k : List ℕ) (f : A → List ℕ) (o : Option A) (e : ruled false k ≡ true) where
+  choice-sound : ((x : A) → o ≡ Some x → ruled true (f x) ≡ true) → if_some (λ v. sound (token k v)) (option_map f o) ≡ true
+  unfolding sound
+  choice-sound g = go o g
+    where
+      go : (o : Option A) → ((x : A) → o ≡ Some x → ruled true (f x) ≡ true) → if_some (λ v. sound (token k v)) (option_map f o) ≡ true
+      go None g = refl
+      go (Some x) g = and_both (ruled false k) _ e (g x refl)
 
-choice-ascii : (b : Bool) (k v : List ℕ) → ruled false k ≡ true → (b ≡ true → every ascii v ≡ true) → (if b then sound (token k v) else true) ≡ true
-choice-ascii b k v e f = choice-sound b k v e (λ h. ascii-ruled v (f h))
+  choice-ascii : ((x : A) → o ≡ Some x → every ascii (f x) ≡ true) → if_some (λ v. sound (token k v)) (option_map f o) ≡ true
+  choice-ascii g = choice-sound (λ x h. ascii-ruled (f x) (g x h))
 
 alike-back : (b p q : Bool) → p ≡ b → q ≡ b → alike p q ≡ true
 alike-back true p q e f = rw (e, f)
 alike-back false p q e f = rw (e, f)
+
+-- a stream's keys, read
+stream-back : (o : Option Stream) → ((t : Stream) → o ≡ Some t → t.sn < 2 ^ 32) → ((t : Stream) → o ≡ Some t → t.gt < 2 ^ 32)
+    → option_map (λ v. stream_at v (text_of (option_map sn_text o)) (text_of (option_map gt_text o))) (option_map sid_text o) ≡ option_map tidy_stream o
+stream-back None p q = refl
+stream-back (Some t) p q = λ i. Some (record {
+  sid = stream_text (stream_bytes t.sid);
+  sn = (number_is 4294967295 t.sn (let l = p t refl in omega arith)).1 i;
+  gt = (number_is 4294967295 t.gt (let l = q t refl in omega arith)).1 i;
+})
+
+-- a fragment's
+part-back : (o : Option Fragment) → ((f : Fragment) → o ≡ Some f → fragment_in f.mid f.index f.total ≡ true)
+    → option_map (λ v. fragment_at v (text_of (option_map part_text o))) (option_map mid_text o) ≡ o
+part-back None e = refl
+part-back (Some f) e = ap (λ (x : Fragment). Some x) (fragment-back f (e f refl))
 
 module _ (m : Line) (good : message_good m ≡ true) (typed : Typed m) where
   abbrev e : Envelope
@@ -211,29 +236,22 @@ module _ (m : Line) (good : message_good m ≡ true) (typed : Typed m) where
   headers-free : every free (header_tokens e.headers) ≡ true
   headers-free = every_map header free header_token (λ h p. (header-facts h p).1) items (each e.headers typed.eight r.headers-rule)
 
-  ttl-most : e.has_ttl ≡ true → e.ttl ≤ 2147483647
+  ttl-most : (v : ℕ) → e.ttl ≡ Some v → v ≤ 2147483647
   unfolding ttl_in
-  ttl-most b = leb-true e.ttl 2147483647 (and_right (1 ≤? e.ttl) _ (when-set e.has_ttl (ttl_in e.ttl) r.ttl-rule b))
+  ttl-most v h = leb-true v 2147483647 (and_right (1 ≤? v) _ (when-some ttl_in e.ttl v r.ttl-rule h))
 
-  src-call : e.has_src ≡ true → callsign (call_bytes e.src) ≡ true
+  src-call : (t : CallText) → e.src ≡ Some t → callsign (call_bytes t) ≡ true
   unfolding call_in
-  src-call b = and_right (e.src.len ≤? 12) _ (when-set e.has_src (call_in e.src) r.src-rule b)
+  src-call t h = and_right (t.len ≤? 12) _ (when-some call_in e.src t r.src-rule h)
 
-  part_in : e.has_fragment ≡ true → fragment_in e.mid e.index e.total ≡ true
-  part_in b = when-set e.has_fragment (fragment_in e.mid e.index e.total) r.fragment-rule b
+  part_in : (f : Fragment) → e.fragment ≡ Some f → fragment_in f.mid f.index f.total ≡ true
+  part_in f h = when-some rules.fragment_good e.fragment f r.fragment-rule h
 
-  mid-in : e.has_fragment ≡ true → id_in e.mid ≡ true
-  unfolding fragment_in
-  mid-in b = and_left (id_in e.mid) _ (part_in b)
-
-  part-made : e.has_fragment ≡ true → PartMade e.index e.total
-  part-made b = part-back e.mid e.index e.total (part_in b)
-
-  sid-visible : e.has_stream ≡ true → ruled true (stream_bytes e.sid) ≡ true
+  sid-visible : (t : Stream) → e.stream ≡ Some t → ruled true (sid_text t) ≡ true
   unfolding stream_in stream_id id_text
-  sid-visible b =
-      let s = stream_bytes e.sid in
-      let f = and_right (e.sid.len ≤? 255) _ (when-set e.has_stream (stream_in e.sid) r.stream-rule b) in
+  sid-visible t h =
+      let s = stream_bytes t.sid in
+      let f = and_right (t.sid.len ≤? 255) _ (when-some rules.stream_good e.stream t r.stream-rule h) in
       ruled-visible s (and_right (1 ≤? length s and length s ≤? 255) _ f)
 
   dst-is : destination (address_bytes e.dst) ≡ true
@@ -241,18 +259,18 @@ module _ (m : Line) (good : message_good m ≡ true) (typed : Typed m) where
   dst-is = and_right (e.dst.len ≤? 45) _ r.dst-rule
 
   choices-sound : every sound_choice (choices_of m) ≡ true
-  unfolding choices_of ruled text_byte run
+  unfolding choices_of sound ruled text_byte run
   choices-sound =
-      and_both _ _ (choice-ascii true key_len (decimal m.len) refl (λ b. decimal-ascii m.len))
-      (and_both _ _ (choice-sound true key_fmt 'p' refl (λ b. refl))
-      (and_both _ _ (choice-ascii e.has_salt key_s (signed_decimal e.salt) refl (λ b. signed-ascii e.salt))
-      (and_both _ _ (choice-ascii e.has_ttl key_ttl (decimal e.ttl) refl (λ b. decimal-ascii e.ttl))
-      (and_both _ _ (choice-ascii e.has_src key_src (call_bytes e.src) refl (λ b. callsign-ascii (call_bytes e.src) (src-call b)))
-      (and_both _ _ (choice-ascii e.has_fragment key_mid (hex_digits 7 e.mid) refl (λ b. hex-ascii 7 e.mid))
-      (and_both _ _ (choice-ascii e.has_fragment key_frag (part_text e.index e.total) refl (λ b. part-ascii e.index e.total))
-      (and_both _ _ (choice-sound e.has_stream key_sid (stream_bytes e.sid) refl sid-visible)
-      (and_both _ _ (choice-ascii e.has_stream key_sn (decimal e.sn) refl (λ b. decimal-ascii e.sn))
-      (and_both _ _ (choice-ascii e.has_stream key_gt (decimal e.gt) refl (λ b. decimal-ascii e.gt)) refl)))))))))
+      and_both _ _ (choice-ascii key_len decimal (Some m.len) refl (λ v h. decimal-ascii v))
+      (and_both _ _ (choice-sound key_fmt (λ (v : List ℕ). 'p') (Some 'p') refl (λ v h. refl))
+      (and_both _ _ (choice-ascii key_s signed_decimal e.salt refl (λ z h. signed-ascii z))
+      (and_both _ _ (choice-ascii key_ttl decimal e.ttl refl (λ v h. decimal-ascii v))
+      (and_both _ _ (choice-ascii key_src call_bytes e.src refl (λ t h. callsign-ascii (call_bytes t) (src-call t h)))
+      (and_both _ _ (choice-ascii key_mid mid_text e.fragment refl (λ f h. hex-ascii 7 f.mid))
+      (and_both _ _ (choice-ascii key_frag part_text e.fragment refl (λ f h. part-ascii f))
+      (and_both _ _ (choice-sound key_sid sid_text e.stream refl sid-visible)
+      (and_both _ _ (choice-ascii key_sn sn_text e.stream refl (λ t h. decimal-ascii t.sn))
+      (and_both _ _ (choice-ascii key_gt gt_text e.stream refl (λ t h. decimal-ascii t.gt)) refl)))))))))
 
   abbrev ends : List Token
   ends = dst_token m ∷ chk_token (body_of m) ∷ []
@@ -270,104 +288,83 @@ module _ (m : Line) (good : message_good m ≡ true) (typed : Typed m) where
   all-some = omega (arith, length-append (chosen (choices_of m)) (header_tokens e.headers ++ ends), length-append (header_tokens e.headers) ends)
 
   -- looking a reserved key up
-  look : (k : List ℕ) → reserved k ≡ true → present k (all_of m) ≡ given_in k (choices_of m) (present k ends)
-  look k p = present-chosen k (choices_of m) (header_tokens e.headers ++ ends) ∙ ap (given_in k (choices_of m)) (present-past k ends p (header_tokens e.headers) headers-free)
-
-  find : (k : List ℕ) → reserved k ≡ true → value k (all_of m) ≡ value_in k (choices_of m) (value k ends)
-  find k p = value-chosen k (choices_of m) (header_tokens e.headers ++ ends) ∙ ap (value_in k (choices_of m)) (value-past k ends p (header_tokens e.headers) headers-free)
+  look : (k : List ℕ) → reserved k ≡ true → given k (all_of m) ≡ given_in k (choices_of m) (given k ends)
+  look k p = given-chosen k (choices_of m) (header_tokens e.headers ++ ends) ∙ ap (given_in k (choices_of m)) (given-past k ends p (header_tokens e.headers) headers-free)
 
   -- what each key is found to say
+  f-len : given key_len (all_of m) ≡ Some (decimal m.len)
+  unfolding choices_of reserved reserved_keys present value
+  f-len = look key_len refl
+
+  f-fmt : given key_fmt (all_of m) ≡ Some 'p'
+  unfolding choices_of reserved reserved_keys present value
+  f-fmt = look key_fmt refl
+
+  f-dst : given key_dst (all_of m) ≡ Some (address_bytes e.dst)
+  unfolding choices_of reserved reserved_keys present value
+  f-dst = look key_dst refl
+
+  f-chk : given key_chk (all_of m) ≡ Some (hex_digits 4 (crc16 (body_of m)))
+  unfolding choices_of reserved reserved_keys present value
+  f-chk = look key_chk refl
+
+  f-clen : given key_clen (all_of m) ≡ None
+  unfolding choices_of reserved reserved_keys present value
+  f-clen = look key_clen refl
+
+  f-s : given key_s (all_of m) ≡ option_map signed_decimal e.salt
+  unfolding choices_of reserved reserved_keys present value
+  f-s = look key_s refl ∙ or-none (option_map signed_decimal e.salt)
+
+  f-ttl : given key_ttl (all_of m) ≡ option_map decimal e.ttl
+  unfolding choices_of reserved reserved_keys present value
+  f-ttl = look key_ttl refl ∙ or-none (option_map decimal e.ttl)
+
+  f-src : given key_src (all_of m) ≡ option_map call_bytes e.src
+  unfolding choices_of reserved reserved_keys present value
+  f-src = look key_src refl ∙ or-none (option_map call_bytes e.src)
+
+  f-mid : given key_mid (all_of m) ≡ option_map mid_text e.fragment
+  unfolding choices_of reserved reserved_keys present value
+  f-mid = look key_mid refl ∙ or-none (option_map mid_text e.fragment)
+
+  f-frag : given key_frag (all_of m) ≡ option_map part_text e.fragment
+  unfolding choices_of reserved reserved_keys present value
+  f-frag = look key_frag refl ∙ or-none (option_map part_text e.fragment)
+
+  f-sid : given key_sid (all_of m) ≡ option_map sid_text e.stream
+  unfolding choices_of reserved reserved_keys present value
+  f-sid = look key_sid refl ∙ or-none (option_map sid_text e.stream)
+
+  f-sn : given key_sn (all_of m) ≡ option_map sn_text e.stream
+  unfolding choices_of reserved reserved_keys present value
+  f-sn = look key_sn refl ∙ or-none (option_map sn_text e.stream)
+
+  f-gt : given key_gt (all_of m) ≡ option_map gt_text e.stream
+  unfolding choices_of reserved reserved_keys present value
+  f-gt = look key_gt refl ∙ or-none (option_map gt_text e.stream)
+
   v-len : value key_len (all_of m) ≡ decimal m.len
-  unfolding choices_of reserved reserved_keys same present value
-  v-len = find key_len refl
+  v-len = value_is key_len (all_of m) _ f-len
 
   v-fmt : value key_fmt (all_of m) ≡ 'p'
-  unfolding choices_of reserved reserved_keys same present value
-  v-fmt = find key_fmt refl
+  v-fmt = value_is key_fmt (all_of m) _ f-fmt
 
   v-dst : value key_dst (all_of m) ≡ address_bytes e.dst
-  unfolding choices_of reserved reserved_keys same present value
-  v-dst = find key_dst refl
+  v-dst = value_is key_dst (all_of m) _ f-dst
 
   v-chk : value key_chk (all_of m) ≡ hex_digits 4 (crc16 (body_of m))
-  unfolding choices_of reserved reserved_keys same present value
-  v-chk = find key_chk refl
+  v-chk = value_is key_chk (all_of m) _ f-chk
 
   g-chk : present key_chk (all_of m) ≡ true
-  unfolding choices_of reserved reserved_keys same present value
-  g-chk = look key_chk refl
+  g-chk = present-is key_chk (all_of m) _ f-chk
 
   g-clen : present key_clen (all_of m) ≡ false
-  unfolding choices_of reserved reserved_keys same present value
-  g-clen = look key_clen refl
-
-  v-s : value key_s (all_of m) ≡ (if e.has_salt then signed_decimal e.salt else [])
-  unfolding choices_of reserved reserved_keys same present value
-  v-s = find key_s refl
-
-  g-s : present key_s (all_of m) ≡ e.has_salt
-  unfolding choices_of reserved reserved_keys same present
-  g-s = look key_s refl ∙ flag-back e.has_salt
-
-  v-ttl : value key_ttl (all_of m) ≡ (if e.has_ttl then decimal e.ttl else [])
-  unfolding choices_of reserved reserved_keys same present value
-  v-ttl = find key_ttl refl
-
-  g-ttl : present key_ttl (all_of m) ≡ e.has_ttl
-  unfolding choices_of reserved reserved_keys same present
-  g-ttl = look key_ttl refl ∙ flag-back e.has_ttl
-
-  v-src : value key_src (all_of m) ≡ (if e.has_src then call_bytes e.src else [])
-  unfolding choices_of reserved reserved_keys same present value
-  v-src = find key_src refl
-
-  g-src : present key_src (all_of m) ≡ e.has_src
-  unfolding choices_of reserved reserved_keys same present
-  g-src = look key_src refl ∙ flag-back e.has_src
-
-  v-mid : value key_mid (all_of m) ≡ (if e.has_fragment then hex_digits 7 e.mid else [])
-  unfolding choices_of reserved reserved_keys same present value
-  v-mid = find key_mid refl
-
-  g-mid : present key_mid (all_of m) ≡ e.has_fragment
-  unfolding choices_of reserved reserved_keys same present
-  g-mid = look key_mid refl ∙ flag-back e.has_fragment
-
-  v-frag : value key_frag (all_of m) ≡ (if e.has_fragment then part_text e.index e.total else [])
-  unfolding choices_of reserved reserved_keys same present value
-  v-frag = find key_frag refl
-
-  g-frag : present key_frag (all_of m) ≡ e.has_fragment
-  unfolding choices_of reserved reserved_keys same present
-  g-frag = look key_frag refl ∙ flag-back e.has_fragment
-
-  v-sid : value key_sid (all_of m) ≡ (if e.has_stream then stream_bytes e.sid else [])
-  unfolding choices_of reserved reserved_keys same present value
-  v-sid = find key_sid refl
-
-  g-sid : present key_sid (all_of m) ≡ e.has_stream
-  unfolding choices_of reserved reserved_keys same present
-  g-sid = look key_sid refl ∙ flag-back e.has_stream
-
-  v-sn : value key_sn (all_of m) ≡ (if e.has_stream then decimal e.sn else [])
-  unfolding choices_of reserved reserved_keys same present value
-  v-sn = find key_sn refl
-
-  g-sn : present key_sn (all_of m) ≡ e.has_stream
-  unfolding choices_of reserved reserved_keys same present
-  g-sn = look key_sn refl ∙ flag-back e.has_stream
-
-  v-gt : value key_gt (all_of m) ≡ (if e.has_stream then decimal e.gt else [])
-  unfolding choices_of reserved reserved_keys same present value
-  v-gt = find key_gt refl
-
-  g-gt : present key_gt (all_of m) ≡ e.has_stream
-  unfolding choices_of reserved reserved_keys same present
-  g-gt = look key_gt refl ∙ flag-back e.has_stream
+  g-clen = present-is key_clen (all_of m) _ f-clen
 
   -- the headers, and no key twice
   others-all : others (all_of m) ≡ header_tokens e.headers
-  unfolding choices_of reserved reserved_keys same others
+  unfolding choices_of reserved reserved_keys others
   others-all =
       others-append (chosen (choices_of m)) (header_tokens e.headers ++ ends)
       ∙ ap (λ (l : List Token). l ++ others (header_tokens e.headers ++ ends)) (others-chosen (choices_of m) refl)
@@ -375,11 +372,14 @@ module _ (m : Line) (good : message_good m ≡ true) (typed : Typed m) where
       ∙ ap (λ (l : List Token). l ++ []) (others-free (header_tokens e.headers) headers-free)
       ∙ append-nil (header_tokens e.headers)
 
+  past-headers : (k : List ℕ) (ts : List Token) → reserved k ≡ true → present k ts ≡ false → present k (header_tokens e.headers ++ ts) ≡ false
+  past-headers k ts p q = present-is k (header_tokens e.headers ++ ts) (given k ts) (given-past k ts p (header_tokens e.headers) headers-free) ∙ given-some k ts ∙ q
+
   clear_behind : (k : List ℕ) → reserved k ≡ true → present k ends ≡ false → no (present k (header_tokens e.headers ++ ends)) ≡ true
-  clear_behind k p q = no_false _ (present-past k ends p (header_tokens e.headers) headers-free ∙ q)
+  clear_behind k p q = no_false _ (past-headers k ends p q)
 
   all_once : once (all_of m) ≡ true
-  unfolding choices_of reserved reserved_keys same present all_differ keys_of
+  unfolding choices_of reserved reserved_keys present all_differ keys_of
   all_once =
       once-chosen (choices_of m) (header_tokens e.headers ++ ends)
       (once-append (header_tokens e.headers) ends (ap all_differ (keys-map items) ∙ differ e.headers typed.eight r.headers-rule) refl
@@ -396,17 +396,17 @@ module _ (m : Line) (good : message_good m ≡ true) (typed : Typed m) where
       (and_both _ _ (clear_behind key_gt refl refl) refl))))))))))
 
   chk-last : last_only key_chk (keys (all_of m)) ≡ true
-  unfolding choices_of reserved reserved_keys same present tokens_of
+  unfolding choices_of reserved reserved_keys present tokens_of
   chk-last =
       sym (ap (λ (l : List Token). last_only key_chk (keys l)) (all-is m))
       ∙ last-only key_chk (tokens_of m) (chk_token (body_of m))
-      (present-chosen key_chk (choices_of m) (header_tokens e.headers ++ (dst_token m ∷ []))
-      ∙ present-past key_chk (dst_token m ∷ []) refl (header_tokens e.headers) headers-free)
+      (present-is key_chk (tokens_of m) None (given-chosen key_chk (choices_of m) (header_tokens e.headers ++ (dst_token m ∷ []))
+      ∙ given-past key_chk (dst_token m ∷ []) refl (header_tokens e.headers) headers-free))
 
   -- ---- the rules
 
   payload-good : payload_good (all_of m) ≡ true
-  unfolding payload_good same
+  unfolding payload_good
   payload-good =
       and_both (is_number 2147483647 (value key_len (all_of m))) _ (ap (is_number 2147483647) v-len ∙ (number_is 2147483647 m.len len-fits).0)
       (and_both (format_rule (same (value key_fmt (all_of m)) 'p') (deflated (all_of m)) (present key_clen (all_of m))) _ (rw (g-clen, v-fmt)) (if_no _ _ _ g-clen))
@@ -414,28 +414,31 @@ module _ (m : Line) (good : message_good m ≡ true) (typed : Typed m) where
   singles-good : singles_good (all_of m) ≡ true
   unfolding singles_good
   singles-good =
-      and_both (if present key_s (all_of m) then is_signed (value key_s (all_of m)) else true) _
-      (rule-back is_signed e.has_salt _ (signed_decimal e.salt) _ g-s v-s (λ b. (signed_is e.salt typed.salt-fits).0))
-      (and_both (if present key_ttl (all_of m) then is_number 2147483647 (value key_ttl (all_of m)) else true) _
-      (rule-back (is_number 2147483647) e.has_ttl _ (decimal e.ttl) _ g-ttl v-ttl (λ b. (number_is 2147483647 e.ttl (ttl-most b)).0))
+      and_both (optional key_s is_signed (all_of m)) _ (rule-back is_signed signed_decimal e.salt key_s (all_of m) f-s (λ z h. (signed_is z (typed.salt-fits z h)).0))
+      (and_both (optional key_ttl (is_number 2147483647) (all_of m)) _
+      (rule-back (is_number 2147483647) decimal e.ttl key_ttl (all_of m) f-ttl (λ v h. (number_is 2147483647 v (ttl-most v h)).0))
       (if_yes _ _ _ g-chk ∙ ap (is_hex 4) v-chk ∙ hex-is 4 (crc16 (body_of m))))
 
   fragment-good : fragment_good (all_of m) ≡ true
   unfolding fragment_good
   fragment-good =
-      and_both (alike (present key_mid (all_of m)) (present key_frag (all_of m))) _ (alike-back e.has_fragment _ _ g-mid g-frag)
-      (and_both (if present key_mid (all_of m) then is_hex 7 (value key_mid (all_of m)) else true) _
-      (rule-back (is_hex 7) e.has_fragment _ (hex_digits 7 e.mid) _ g-mid v-mid (λ b. hex-is 7 e.mid))
-      (rule-back is_part e.has_fragment _ (part_text e.index e.total) _ g-frag v-frag (λ b. (part-made b).is-part)))
+      and_both (alike (present key_mid (all_of m)) (present key_frag (all_of m))) _
+      (alike-back (is_some e.fragment) _ _ (present-is key_mid (all_of m) _ f-mid ∙ some-map mid_text e.fragment) (present-is key_frag (all_of m) _ f-frag ∙ some-map part_text e.fragment))
+      (and_both (optional key_mid (is_hex 7) (all_of m)) _
+      (rule-back (is_hex 7) mid_text e.fragment key_mid (all_of m) f-mid (λ f h. hex-is 7 f.mid))
+      (rule-back is_part part_text e.fragment key_frag (all_of m) f-frag (λ f h. part_is f (part_in f h))))
 
   stream-good : stream_good (all_of m) ≡ true
   unfolding stream_good
   stream-good =
+      let sid = present-is key_sid (all_of m) _ f-sid ∙ some-map sid_text e.stream in
+      let sn = present-is key_sn (all_of m) _ f-sn ∙ some-map sn_text e.stream in
+      let gt = present-is key_gt (all_of m) _ f-gt ∙ some-map gt_text e.stream in
       and_both (all_or_none (present key_sid (all_of m)) (present key_sn (all_of m)) (present key_gt (all_of m))) _
-      (and_both (alike (present key_sid (all_of m)) (present key_sn (all_of m))) _ (alike-back e.has_stream _ _ g-sid g-sn) (alike-back e.has_stream _ _ g-sid g-gt))
-      (and_both (if present key_sn (all_of m) then is_number 4294967295 (value key_sn (all_of m)) else true) _
-      (rule-back (is_number 4294967295) e.has_stream _ (decimal e.sn) _ g-sn v-sn (λ b. (number_is 4294967295 e.sn (omega (arith, typed.sn-fits))).0))
-      (rule-back (is_number 4294967295) e.has_stream _ (decimal e.gt) _ g-gt v-gt (λ b. (number_is 4294967295 e.gt (omega (arith, typed.gt-fits))).0)))
+      (and_both (alike (present key_sid (all_of m)) (present key_sn (all_of m))) _ (alike-back (is_some e.stream) _ _ sid sn) (alike-back (is_some e.stream) _ _ sid gt))
+      (and_both (optional key_sn (is_number 4294967295) (all_of m)) _
+      (rule-back (is_number 4294967295) sn_text e.stream key_sn (all_of m) f-sn (λ t h. (number_is 4294967295 t.sn (let l = typed.sn-fits t h in omega arith)).0))
+      (rule-back (is_number 4294967295) gt_text e.stream key_gt (all_of m) f-gt (λ t h. (number_is 4294967295 t.gt (let l = typed.gt-fits t h in omega arith)).0)))
 
   counted-all : length (others (all_of m)) ≡ e.headers.count
   counted-all = ap length others-all ∙ length-map items header_token ∙ counted e.headers typed.eight r.headers-rule
@@ -459,40 +462,22 @@ module _ (m : Line) (good : message_good m ≡ true) (typed : Typed m) where
   headers-back : headers_of (others (all_of m)) ≡ tidy_headers e.headers
   unfolding headers_of tidy_headers
   headers-back = λ i. record {
-    items = front ((ap (map header_of) others-all ∙ map-map items) i) (replicate 8 (header_text [] []));
+    items = front ((ap (map header_of) others-all ∙ tokens-tidy items) i) (replicate 8 (header_text [] []));
     count = counted-all i;
   }
 
-  number-set : (b : Bool) (v limit : ℕ) → (b ≡ true → v ≤ limit) → number (if b then decimal v else []) ≡ (if b then v else 0)
-  unfolding numerals.value
-  number-set b v limit f = read_back number b (decimal v) v 0 (λ h. (number_is limit v (f h)).1) refl
-
   pub fields_back : (id : ℕ) → id ≡ e.id → fields_of id (all_of m) ≡ tidy e
-  unfolding fields_of tidy numerals.value before after
-  fields_back id p =
-      let sn = number-set e.has_stream e.sn 4294967295 (λ h. omega (arith, typed.sn-fits)) in
-      let gt = number-set e.has_stream e.gt 4294967295 (λ h. omega (arith, typed.gt-fits)) in
-      λ i. record {
-        id = p i;
-        has_salt = g-s i;
-        salt = (ap signed v-s ∙ read_back signed e.has_salt (signed_decimal e.salt) e.salt (pos 0) (λ h. (signed_is e.salt typed.salt-fits).1) refl) i;
-        has_ttl = g-ttl i;
-        ttl = (ap number v-ttl ∙ number-set e.has_ttl e.ttl 2147483647 ttl-most) i;
-        has_src = g-src i;
-        src = (ap call_text v-src ∙ read_back call_text e.has_src (call_bytes e.src) (call_text (call_bytes e.src)) (call_text []) (λ h. refl) refl) i;
-        has_fragment = g-mid i;
-        mid = (ap hex_value v-mid ∙ read_back hex_value e.has_fragment (hex_digits 7 e.mid) e.mid 0 (λ h. id-back e.mid (mid-in h)) refl) i;
-        index = (ap (λ (v : List ℕ). number (before slash v)) v-frag
-            ∙ read_back (λ (v : List ℕ). number (before slash v)) e.has_fragment (part_text e.index e.total) e.index 0 (λ h. (part-made h).first) refl) i;
-        total = (ap (λ (v : List ℕ). number (after slash v)) v-frag
-            ∙ read_back (λ (v : List ℕ). number (after slash v)) e.has_fragment (part_text e.index e.total) e.total 0 (λ h. (part-made h).last) refl) i;
-        has_stream = g-sid i;
-        sid = (ap stream_text v-sid ∙ read_back stream_text e.has_stream (stream_bytes e.sid) (stream_text (stream_bytes e.sid)) (stream_text []) (λ h. refl) refl) i;
-        sn = (ap number v-sn ∙ sn) i;
-        gt = (ap number v-gt ∙ gt) i;
-        headers = headers-back i;
-        dst = (ap address_text v-dst) i;
-      }
+  unfolding fields_of tidy
+  fields_back id p = λ i. record {
+    id = p i;
+    salt = (ap (λ (o : Option (List ℕ)). option_map signed o) f-s ∙ read_back signed_decimal signed e.salt (λ z h. (signed_is z (typed.salt-fits z h)).1)) i;
+    ttl = (ap (λ (o : Option (List ℕ)). option_map number o) f-ttl ∙ read_back decimal number e.ttl (λ v h. (number_is 2147483647 v (ttl-most v h)).1)) i;
+    src = (ap (λ (o : Option (List ℕ)). option_map call_text o) f-src ∙ map-map call_text call_bytes e.src) i;
+    fragment = ((λ j. option_map (λ v. fragment_at v (value_is key_frag (all_of m) _ f-frag j)) (f-mid j)) ∙ part-back e.fragment part_in) i;
+    stream = ((λ j. option_map (λ v. stream_at v (value_is key_sn (all_of m) _ f-sn j) (value_is key_gt (all_of m) _ f-gt j)) (f-sid j)) ∙ stream-back e.stream typed.sn-fits typed.gt-fits) i;
+    headers = headers-back i;
+    dst = (ap address_text v-dst) i;
+  }
 
   -- ---- the whole line
 
@@ -549,7 +534,7 @@ module _ (m : Line) (good : message_good m ≡ true) (typed : Typed m) where
       ∙ sym (ap hex_value v-chk ∙ hex-back 4 (crc16 (body_of m)) (feed-lt start (body_of m) (omega arith))))
 
   pub line_read : m.len ≤ longest_payload → read_of (print_of m) ≡ record { reading = Read; line = record { len = m.len; fields = tidy e } }
-  unfolding line_of same
+  unfolding line_of
   line_read small =
       let n : len_of (all_of m) ≡ m.len = ap number v-len ∙ (number_is 2147483647 m.len len-fits).1 in
       ap read_of (print-is m)

@@ -18,7 +18,9 @@ use Rattle.names.specs.Reserved.{key_chk}
 use Rattle.headers.specs.Keys.{all_differ}
 use Rattle.crc16.specs.Crc.{crc16}
 use Rattle.crc16.proofs.Laws.{one_byte}
-use Rattle.tokens.specs.Cuts.{has, before, after, onto, split}
+use Rattle.std.specs.List.{onto_first}
+use Rattle.tokens.specs.Cuts.{has, before, after, split}
+use Rattle.tokens.proofs.Parts.{after-cons}
 use Rattle.tokens.specs.Tokens.{Token, token, token_of, words, tokens, keys, present, value, none, last_only, keyed, word_of, space, equals}
 use Rattle.line_groups.specs.Rules.{deflated}
 use Rattle.line_groups.specs.Answers.{len_of}
@@ -31,11 +33,11 @@ chk_part d = space ∷ word_of (token key_chk d)
 
 -- ---- the last word
 
-onto-append : (x : ℕ) (a b : List (List ℕ)) → 0 < length a → onto x (a ++ b) ≡ onto x a ++ b
+onto-append : (x : ℕ) (a b : List (List ℕ)) → 0 < length a → onto_first x (a ++ b) ≡ onto_first x a ++ b
 onto-append x [] b h = absurd (omega arith)
 onto-append x (w ∷ a) b h = refl
 
-onto-some : (x : ℕ) (a : List (List ℕ)) → 0 < length (onto x a)
+onto-some : (x : ℕ) (a : List (List ℕ)) → 0 < length (onto_first x a)
 onto-some x [] = omega arith
 onto-some x (w ∷ a) = omega arith
 
@@ -45,7 +47,7 @@ module _ (c : ℕ) where
   split-some [] = omega arith
   split-some (x ∷ s) = go (x =? c)
     where
-      go : (t : Bool) → 0 < length (if t then ([] ∷ split c s) else onto x (split c s))
+      go : (t : Bool) → 0 < length (if t then ([] ∷ split c s) else onto_first x (split c s))
       go true = omega arith
       go false = onto-some x (split c s)
 
@@ -55,14 +57,14 @@ module _ (c : ℕ) where
   split-append (x ∷ s) t = go (x =? c) (split-append s t)
     where
       go : (b : Bool) → split c (s ++ (c ∷ t)) ≡ split c s ++ split c t
-          → (if b then ([] ∷ split c (s ++ (c ∷ t))) else onto x (split c (s ++ (c ∷ t)))) ≡ (if b then ([] ∷ split c s) else onto x (split c s)) ++ split c t
+          → (if b then ([] ∷ split c (s ++ (c ∷ t))) else onto_first x (split c (s ++ (c ∷ t)))) ≡ (if b then ([] ∷ split c s) else onto_first x (split c s)) ++ split c t
       go true h = ap (λ (l : List (List ℕ)). [] ∷ l) h
-      go false h = ap (onto x) h ∙ onto-append x (split c s) (split c t) (split-some s)
+      go false h = ap (onto_first x) h ∙ onto-append x (split c s) (split c t) (split-some s)
 
   after-append : (u t : List ℕ) → has c u ≡ true → after c (u ++ t) ≡ after c u ++ t
   unfolding has after
   after-append [] t h = true-not-false false h refl
-  after-append (x ∷ u) t h = go (x =? c) h (after-append u t)
+  after-append (x ∷ u) t h = rw (after-cons c x (u ++ t), after-cons c x u) (go (x =? c) h (after-append u t))
     where
       go : (b : Bool) → b or has c u ≡ true → (has c u ≡ true → after c (u ++ t) ≡ after c u ++ t) → (if b then u ++ t else after c (u ++ t)) ≡ (if b then u else after c u) ++ t
       go true h f = refl
@@ -71,7 +73,7 @@ module _ (c : ℕ) where
   after_none : (w : List ℕ) → has c w ≡ false → after c w ≡ []
   unfolding has after
   after_none [] h = refl
-  after_none (x ∷ w) h = let e = or_no (x =? c) (has c w) h in if_no _ _ _ e.0 ∙ after_none w e.1
+  after_none (x ∷ w) h = let e = or_no (x =? c) (has c w) h in after-cons c x w ∙ if_no _ _ _ e.0 ∙ after_none w e.1
 
 -- ---- `chk` among the tokens
 
@@ -88,7 +90,7 @@ module _ (d : List ℕ) where
   last = token key_chk d ∷ []
 
   last-value : (ts : List Token) → last_only key_chk (keys (ts ++ last)) ≡ true → (present key_chk (ts ++ last) ≡ true) × (value key_chk (ts ++ last) ≡ d)
-  unfolding same present value last_only
+  unfolding present value last_only
   last-value [] e = (refl, refl)
   last-value (t ∷ ts) e =
       let n = or-false (same key_chk t.key) (none (keys (ts ++ last))) (and_left _ _ e) (none_last ts (token key_chk d)) in

@@ -1,5 +1,6 @@
 -- THEOREM: an accepted line in the writer's order, with `chk`, is written again byte for byte.
-use Rattle.std.specs.Prelude.{if◌then◌else◌}
+use Rattle.std.specs.Prelude.{Some, None, if◌then◌else◌}
+use Rattle.std.specs.Option.{option_map, option_to_list}
 use Prim.Native.Nat.{ℕ, suc, ◌-◌}
 use mathlib.Core.Path.{◌≡◌, refl, ap, sym, ◌∙◌}
 use mathlib.Core.Bool.{Bool, true, false}
@@ -12,7 +13,7 @@ use Rattle.octets.specs.Words.{◌and◌, ◌or◌, no, ◌=?◌, ◌≤?◌, ev
 use Rattle.octets.specs.Bytes.{same}
 use Rattle.octets.proofs.Lists.{same-eq, same_refl}
 use Rattle.octets.proofs.Tests.{and_left, and_right, if_yes, if_no, or_no, true-not-false}
-use Rattle.text.specs.Decimal.{is_decimal, is_number, number, decimal, is_signed}
+use Rattle.text.specs.Decimal.{is_decimal, is_number, number, decimal, is_signed, signed, signed_decimal}
 use Rattle.text.specs.Hex.{is_hex, hex_value, hex_digits}
 use Rattle.text.proofs.Decimals.{number-forth, signed-forth}
 use Rattle.text.proofs.Hexes.{hex-forth}
@@ -24,16 +25,20 @@ use Rattle.names.specs.Texts.{id_text, stream_id, header_key}
 use Rattle.names.specs.Reserved.{reserved, key_len, key_fmt, key_s, key_clen, key_dst, key_chk, key_ttl, key_src, key_mid, key_frag, key_sid, key_sn, key_gt}
 use Rattle.headers.specs.Keys.{all_differ, key_of}
 use Rattle.headers.specs.Rule.{value_of, header}
-use Rattle.tokens.specs.Cuts.{has, before, after, onto, split}
-use Rattle.tokens.specs.Tokens.{Token, token, token_of, words, tokens, keys, present, value, others, keyed, space, equals, word_of, spaced}
+use Rattle.std.specs.List.{onto_first}
+use Rattle.tokens.specs.Cuts.{has, before, after, split}
+use Rattle.tokens.proofs.Parts.{before-cons, after-cons}
+use Rattle.tokens.specs.Tokens.{Token, token, token_of, words, tokens, keys, present, value, given, others, keyed, space, equals, word_of, spaced}
 use Rattle.tokens.proofs.Lookups.{value-missing}
 use Rattle.envelope.specs.Texts.{fitted, call_text, address_text, stream_text, header_text}
-use Rattle.envelope.specs.Rules.{call_bytes, address_bytes, stream_bytes, call_in, address_in, stream_in}
+use Rattle.envelope.specs.Rules.{call_bytes, address_bytes, stream_bytes, call_in, address_in, stream_in, if_some}
+use Rattle.envelope.specs.Rules as rules
 use Rattle.line_values.specs.Values.{slash, is_part}
 use Rattle.line_groups.specs.Rules.{alike, all_or_none, format_rule, optional, 'p', deflated, payload_good, singles_good, fragment_good, stream_good}
+use Rattle.line_groups.specs.Answers.{fragment_at, stream_at}
 use Rattle.line_places.specs.Headers.{short_value, headers_fit, header_of, headers_of}
 use Rattle.line.specs.Reading.{ihave, verb_word, id_word, rest_of, framed, fields_of, line_of, chk_right, refusal_of}
-use Rattle.line.specs.Writing.{Choice, chosen, part_text, choices_of, header_token, header_tokens, dst_token, tokens_of, body_of, chk_token, print_of}
+use Rattle.line.specs.Writing.{Choice, chosen, mid_text, part_text, sid_text, sn_text, gt_text, choices_of, header_token, header_tokens, dst_token, tokens_of, body_of, chk_token, print_of}
 use Rattle.line.specs.declared.Line.{Line}
 use Rattle.line_trip.specs.Order.{first_keys, present_among, InOrder}
 use Rattle.line_trip.proofs.Lookups.{not-no}
@@ -49,7 +54,7 @@ module _ (c : ℕ) where
   pub cut-join : (s : List ℕ) → has c s ≡ true → before c s ++ (c ∷ after c s) ≡ s
   unfolding has before after
   cut-join [] e = true-not-false false e refl
-  cut-join (x ∷ s) e = go (x =? c) refl e (cut-join s)
+  cut-join (x ∷ s) e = rw (before-cons c x s, after-cons c x s) (go (x =? c) refl e (cut-join s))
     where
       go : (b : Bool) → (x =? c) ≡ b → (b or has c s) ≡ true → (has c s ≡ true → before c s ++ (c ∷ after c s) ≡ s)
           → (if b then [] else (x ∷ before c s)) ++ (c ∷ (if b then s else after c s)) ≡ x ∷ s
@@ -59,7 +64,7 @@ module _ (c : ℕ) where
   after_none : (s : List ℕ) → has c s ≡ false → after c s ≡ []
   unfolding has after
   after_none [] e = refl
-  after_none (x ∷ s) e = let f = or_no (x =? c) (has c s) e in if_no _ _ _ f.0 ∙ after_none s f.1
+  after_none (x ∷ s) e = let f = or_no (x =? c) (has c s) e in after-cons c x s ∙ if_no _ _ _ f.0 ∙ after_none s f.1
 
 -- the words of a text, joined by spaces, are the text
 join-words : (r : List ℕ) → spaced (words r) ≡ space ∷ r
@@ -67,7 +72,7 @@ unfolding split
 join-words [] = refl
 join-words (x ∷ r) = go (x =? space) refl (split space r) (join-words r)
   where
-    go : (b : Bool) → (x =? space) ≡ b → (ws : List (List ℕ)) → spaced ws ≡ space ∷ r → spaced (if b then ([] ∷ ws) else onto x ws) ≡ space ∷ (x ∷ r)
+    go : (b : Bool) → (x =? space) ≡ b → (ws : List (List ℕ)) → spaced ws ≡ space ∷ r → spaced (if b then ([] ∷ ws) else onto_first x ws) ≡ space ∷ (x ∷ r)
     go true q ws h = ap (λ (l : List ℕ). space ∷ l) (h ∙ ap (λ (y : ℕ). y ∷ r) (sym (eqb-true x space q)))
     go false q [] h = let z : 0 ≡ suc (length r) = ap length h in absurd (omega arith)
     go false q (w ∷ ws) h = let k : w ++ spaced ws ≡ r = cc in ap (λ (l : List ℕ). space ∷ (x ∷ l)) k
@@ -188,20 +193,20 @@ module _ (ts : List Token) where
   others-looked-up d = each-look (others ts) (each-other ts (each_from [] ts refl d))
 
   -- the keys that are there, looked up, against the writer's choices
-  chosen-next : (c : Choice) (cs : List Choice) (k : List ℕ) (ks : List (List ℕ)) → c.on ≡ present k ts → (present k ts ≡ true → c.what ≡ look k)
+  chosen-next : (c : Choice) (cs : List Choice) (k : List ℕ) (ks : List (List ℕ)) → c.key ≡ k → c.text ≡ given k ts
       → map look (present_among ts ks) ≡ chosen cs → map look (present_among ts (k ∷ ks)) ≡ chosen (c ∷ cs)
   unfolding chosen
-  chosen-next c cs k ks on what rest = rw on (go (present k ts) refl)
+  chosen-next c cs k ks is_key is-text rest = go (present k ts) ∙ sym (λ i. option_to_list (option_map (token (is_key i)) (is-text i)) ++ chosen cs)
     where
-      go : (b : Bool) → present k ts ≡ b → map look (if b then (k ∷ present_among ts ks) else present_among ts ks) ≡ (if b then (c.what ∷ chosen cs) else chosen cs)
-      go true e = rw (what e, rest)
-      go false e = rest
+      go : (b : Bool) → map look (if b then (k ∷ present_among ts ks) else present_among ts ks) ≡ option_to_list (option_map (token k) (if b then Some (value k ts) else None)) ++ chosen cs
+      go true = ap (λ (l : List Token). look k ∷ l) rest
+      go false = rest
 
   abbrev Matches : List Choice → List (List ℕ) → Type 0
   Matches [] [] = Unit
   Matches [] (k ∷ ks) = ⊥
   Matches (c ∷ cs) [] = ⊥
-  Matches (c ∷ cs) (k ∷ ks) = ((c.on ≡ present k ts) × (present k ts ≡ true → c.what ≡ look k)) × Matches cs ks
+  Matches (c ∷ cs) (k ∷ ks) = ((c.key ≡ k) × (c.text ≡ given k ts)) × Matches cs ks
 
   pub chosen-all : (cs : List Choice) (ks : List (List ℕ)) → Matches cs ks → map look (present_among ts ks) ≡ chosen cs
   unfolding chosen
@@ -209,6 +214,19 @@ module _ (ts : List Token) where
   chosen-all [] (k ∷ ks) e = absurd e
   chosen-all (c ∷ cs) [] e = absurd e
   chosen-all (c ∷ cs) (k ∷ ks) e = chosen-next c cs k ks e.0.0 e.0.1 (chosen-all cs ks e.1)
+
+  -- a value that was read, written again: of the key k itself, or of one that comes with it
+  again : {A : Type 0} (f : A → List ℕ) (g : List ℕ → A) (j k : List ℕ) → present j ts ≡ present k ts → (present k ts ≡ true → f (g (value j ts)) ≡ value k ts)
+      → option_map f (option_map g (given j ts)) ≡ given k ts
+  again f g j k e h = ap (λ (b : Bool). option_map f (option_map g (if b then Some (value j ts) else None))) e ∙ go (present k ts) refl
+    where
+      go : (b : Bool) → present k ts ≡ b → option_map f (option_map g (if b then Some (value j ts) else None)) ≡ (if b then Some (value k ts) else None)
+      go true q = ap Some (h q)
+      go false q = refl
+
+  -- the rule of what was read
+  ruled-given : {A : Type 0} (P : A → Bool) (g : List ℕ → A) (k : List ℕ) → if_some P (option_map g (given k ts)) ≡ true → present k ts ≡ true → P (g (value k ts)) ≡ true
+  ruled-given P g k e q = ap (λ (b : Bool). if_some P (option_map g (if b then Some (value k ts) else None))) (sym q) ∙ e
 
   pub present-by : (p : List ℕ → Bool) (k : List ℕ) → p [] ≡ false → p (value k ts) ≡ true → present k ts ≡ true
   present-by p k none e = go (present k ts) refl
@@ -260,7 +278,7 @@ headers-whole [] e f = refl
 headers-whole (t ∷ os) e f =
     rw (header-whole t (and_left (header (header_of t)) _ e) (and_left (short_value t) _ f), headers-whole os (and_right (header (header_of t)) _ e) (and_right (short_value t) _ f))
 
-part-again : (v : List ℕ) → is_part v ≡ true → part_text (number (before slash v)) (number (after slash v)) ≡ v
+part-again : (v : List ℕ) → is_part v ≡ true → decimal (number (before slash v)) ++ (slash ∷ decimal (number (after slash v))) ≡ v
 unfolding is_part
 part-again v e =
     let f = and_right (has slash v) (is_number 65535 (before slash v) and is_number 65535 (after slash v)) e in
@@ -284,11 +302,11 @@ module _ (s : List ℕ) (ok : refusal_of s ≡ 0) (ordered : InOrder (tokens (re
   k : Kept s
   k = kept s ok
 
-  rules : Rules (fields_of hexed ts)
-  rules = rules-of (fields_of hexed ts) k.valid
+  rule : Rules (fields_of hexed ts)
+  rule = rules-of (fields_of hexed ts) k.valid
 
-  decimals : (limit : ℕ) (key : List ℕ) → is_number limit (value key ts) ≡ true → token key (decimal (number (value key ts))) ≡ look ts key
-  decimals limit key e = ap (token key) (number-forth (value key ts) (and_left (is_decimal (value key ts)) _ e))
+  decimals : (limit : ℕ) (key : List ℕ) → is_number limit (value key ts) ≡ true → decimal (number (value key ts)) ≡ value key ts
+  decimals limit key e = number-forth (value key ts) (and_left (is_decimal (value key ts)) _ e)
 
   len-good : is_number 2147483647 (value key_len ts) ≡ true
   unfolding payload_good
@@ -337,28 +355,33 @@ module _ (s : List ℕ) (ok : refusal_of s ≡ 0) (ordered : InOrder (tokens (re
   gt-good = when-set (present key_gt ts) (is_number 4294967295 (value key_gt ts)) (and_right (optional key_sn (is_number 4294967295) ts) _ numbers)
 
   choices : map (look ts) (present_among ts first_keys) ≡ chosen (choices_of m)
-  unfolding choices_of line_of fields_of same
+  unfolding choices_of line_of fields_of
   choices =
+      let mid = λ (v : List ℕ). fragment_at v (value key_frag ts) in
+      let sid = λ (v : List ℕ). stream_at v (value key_sn ts) (value key_gt ts) in
+      let len-there = if_yes _ _ _ (present-by ts (is_number 2147483647) key_len refl len-good) in
+      let fmt-there = if_yes _ _ _ (present-by ts (λ v. same v 'p') key_fmt refl fmt-p) in
+      let sid-good = ruled-given ts rules.stream_good sid key_sid rule.stream-rule in
       chosen-all ts (choices_of m) first_keys (
-        (sym (present-by ts (is_number 2147483647) key_len refl len-good), λ g. decimals 2147483647 key_len len-good),
+        (refl, ap Some (decimals 2147483647 key_len len-good) ∙ sym len-there),
         (
-          (sym (present-by ts (λ v. same v 'p') key_fmt refl fmt-p), λ g. ap (token key_fmt) (sym (same-eq (value key_fmt ts) 'p' fmt-p))),
+          (refl, ap Some (sym (same-eq (value key_fmt ts) 'p' fmt-p)) ∙ sym fmt-there),
           (
-            (refl, λ g. ap (token key_s) (signed-forth (value key_s ts) (s-rule g))),
+            (refl, again ts signed_decimal signed key_s key_s refl (λ g. signed-forth (value key_s ts) (s-rule g))),
             (
-              (refl, λ g. decimals 2147483647 key_ttl (ttl-good g)),
+              (refl, again ts decimal number key_ttl key_ttl refl (λ g. decimals 2147483647 key_ttl (ttl-good g))),
               (
-                (refl, λ g. ap (token key_src) (call-whole (value key_src ts) (when-set (present key_src ts) _ rules.src-rule g))),
+                (refl, again ts call_bytes call_text key_src key_src refl (λ g. call-whole (value key_src ts) (ruled-given ts call_in call_text key_src rule.src-rule g))),
                 (
-                  (refl, λ g. ap (token key_mid) (hex-forth 7 (value key_mid ts) (mid-good g))),
+                  (refl, again ts mid_text mid key_mid key_mid refl (λ g. hex-forth 7 (value key_mid ts) (mid-good g))),
                   (
-                    (mid-frag s ok, λ g. ap (token key_frag) (part-again (value key_frag ts) (frag-good g))),
+                    (refl, again ts part_text mid key_mid key_frag (mid-frag s ok) (λ g. part-again (value key_frag ts) (frag-good g))),
                     (
-                      (refl, λ g. ap (token key_sid) (stream-whole (value key_sid ts) (when-set (present key_sid ts) _ rules.stream-rule g))),
+                      (refl, again ts sid_text sid key_sid key_sid refl (λ g. stream-whole (value key_sid ts) (sid-good g))),
                       (
-                        (sid-sn s ok, λ g. decimals 4294967295 key_sn (sn-good g)),
+                        (refl, again ts sn_text sid key_sid key_sn (sid-sn s ok) (λ g. decimals 4294967295 key_sn (sn-good g))),
                         (
-                          (sid-gt s ok, λ g. decimals 4294967295 key_gt (gt-good g)),
+                          (refl, again ts gt_text sid key_sid key_gt (sid-gt s ok) (λ g. decimals 4294967295 key_gt (gt-good g))),
                           tt,
                         ),
                       ),
@@ -377,11 +400,11 @@ module _ (s : List ℕ) (ok : refusal_of s ≡ 0) (ordered : InOrder (tokens (re
       let os = others ts in
       let front-is : take (length os) (map header_of os ++ drop (length (map header_of os)) (replicate 8 (header_text [] []))) ≡ map header_of os = take_at (map header_of os) _ (length os) (length-map os header_of) in
       others-looked-up ts (keys-differ s k.frame)
-      ∙ sym (ap (map header_token) front-is ∙ headers-whole os (ap (every header) (sym front-is) ∙ each (headers_of os) (items-eight s ok) rules.headers-rule) (and_right (length os ≤? 8) _ k.fit))
+      ∙ sym (ap (map header_token) front-is ∙ headers-whole os (ap (every header) (sym front-is) ∙ each (headers_of os) (items-eight s ok) rule.headers-rule) (and_right (length os ≤? 8) _ k.fit))
 
   dst-is : look ts key_dst ≡ dst_token m
   unfolding line_of fields_of
-  dst-is = sym (ap (token key_dst) (address-whole (value key_dst ts) rules.dst-rule))
+  dst-is = sym (ap (token key_dst) (address-whole (value key_dst ts) rule.dst-rule))
 
   tokens-are : ts ≡ tokens_of m ++ (look ts key_chk ∷ [])
   unfolding tokens_of
@@ -396,7 +419,7 @@ module _ (s : List ℕ) (ok : refusal_of s ≡ 0) (ordered : InOrder (tokens (re
       ∙ ap (λ (l : List Token). chosen (choices_of m) ++ l) (append_assoc hs (dst_token m ∷ []) (look ts key_chk ∷ []))))
 
   chk-there : present key_chk ts ≡ true
-  unfolding present same
+  unfolding present
   chk-there =
       ap (some (same key_chk)) ordered
       ∙ some_right (same key_chk) (present_among ts first_keys) (keys (others ts) ++ (key_dst ∷ key_chk ∷ [])) (some_right (same key_chk) (keys (others ts)) (key_dst ∷ key_chk ∷ []) refl)

@@ -1,8 +1,9 @@
 -- A valid message tidied is a valid message.
-use Rattle.std.specs.Prelude.{if◌then◌else◌}
+use Rattle.std.specs.Prelude.{Option, Some, None}
+use Rattle.std.specs.Option.{option_map}
 use Prim.Native.Nat.{ℕ, ◌≤◌}
 use mathlib.Core.Path.{◌≡◌, refl, ap, ◌∙◌}
-use mathlib.Core.Bool.{Bool, true, false}
+use mathlib.Core.Bool.{Bool, true}
 use mathlib.Core.List.{List, [], ◌∷◌, map}
 use native.Mathlib.Omega.{arith}
 use lib.ListN.{length, take, drop, replicate, length-map}
@@ -25,8 +26,8 @@ use Rattle.envelope.specs.declared.AddressText.{AddressText}
 use Rattle.envelope.specs.declared.StreamText.{StreamText}
 use Rattle.envelope.specs.declared.Envelope.{Envelope}
 use Rattle.envelope.specs.Texts.{fitted, padded, zeros, call_text, address_text, stream_text, header_text}
-use Rattle.envelope.specs.Rules.{call_bytes, address_bytes, stream_bytes, call_in, address_in, stream_in, id_in, ttl_in, fragment_in, envelope}
-use Rattle.envelope.specs.Tidy.{tidy_header, tidy_headers, tidy, behind}
+use Rattle.envelope.specs.Rules.{call_bytes, address_bytes, stream_bytes, call_in, address_in, stream_in, id_in, ttl_in, fragment_good, stream_good, if_some, envelope}
+use Rattle.envelope.specs.Tidy.{tidy_call, tidy_stream, tidy_header, tidy_headers, tidy}
 
 -- ---- a text that its array can hold
 
@@ -129,22 +130,17 @@ module _ (h : Headers) (room : length h.items ≡ 8) (e : headers h ≡ true) wh
 
 -- ---- the message
 
-set-tidy : {A : Type 0} (P : A → Bool) (b : Bool) (x y d : A) → (P x ≡ true → P y ≡ true) → (if b then P x else true) ≡ true
-    → (if b then P (if b then y else d) else true) ≡ true
-set-tidy P true x y d f e = f e
-set-tidy P false x y d f e = refl
-
-part-tidy : (b : Bool) (mid n m : ℕ) → (if b then fragment_in mid n m else true) ≡ true → (if b then fragment_in (behind b mid) (behind b n) (behind b m) else true) ≡ true
-part-tidy true mid n m e = e
-part-tidy false mid n m e = refl
+some-tidy : {A : Type 0} (P : A → Bool) (f : A → A) → ((x : A) → P x ≡ true → P (f x) ≡ true) → (o : Option A) → if_some P o ≡ true → if_some P (option_map f o) ≡ true
+some-tidy P f keeps None e = refl
+some-tidy P f keeps (Some x) e = keeps x e
 
 -- the rules of a message one by one
 pub record Rules (e : Envelope) : Type 0 where
   pub id-rule : id_in e.id ≡ true
-  pub ttl-rule : (if e.has_ttl then ttl_in e.ttl else true) ≡ true
-  pub src-rule : (if e.has_src then call_in e.src else true) ≡ true
-  pub fragment-rule : (if e.has_fragment then fragment_in e.mid e.index e.total else true) ≡ true
-  pub stream-rule : (if e.has_stream then stream_in e.sid else true) ≡ true
+  pub ttl-rule : if_some ttl_in e.ttl ≡ true
+  pub src-rule : if_some call_in e.src ≡ true
+  pub fragment-rule : if_some fragment_good e.fragment ≡ true
+  pub stream-rule : if_some stream_good e.stream ≡ true
   pub headers-rule : headers e.headers ≡ true
   pub dst-rule : address_in e.dst ≡ true
 
@@ -152,10 +148,10 @@ pub rules-of : (e : Envelope) → envelope e ≡ true → Rules e
 unfolding envelope
 rules-of e h =
     let h1 = and_right (id_in e.id) _ h in
-    let h2 = and_right (if e.has_ttl then ttl_in e.ttl else true) _ h1 in
-    let h3 = and_right (if e.has_src then call_in e.src else true) _ h2 in
-    let h4 = and_right (if e.has_fragment then fragment_in e.mid e.index e.total else true) _ h3 in
-    let h5 = and_right (if e.has_stream then stream_in e.sid else true) _ h4 in
+    let h2 = and_right (if_some ttl_in e.ttl) _ h1 in
+    let h3 = and_right (if_some call_in e.src) _ h2 in
+    let h4 = and_right (if_some fragment_good e.fragment) _ h3 in
+    let h5 = and_right (if_some stream_good e.stream) _ h4 in
     record {
       id-rule = and_left _ _ h;
       ttl-rule = and_left _ _ h1;
@@ -171,11 +167,8 @@ unfolding envelope tidy
 envelope-tidy e room h =
     let r = rules-of e h in
     and_both (id_in e.id) _ r.id-rule
-    (and_both (if e.has_ttl then ttl_in (behind e.has_ttl e.ttl) else true) _ (set-tidy ttl_in e.has_ttl e.ttl e.ttl 0 (λ x. x) r.ttl-rule)
-    (and_both (if e.has_src then call_in (if e.has_src then call_text (call_bytes e.src) else call_text []) else true) _
-    (set-tidy call_in e.has_src e.src (call_text (call_bytes e.src)) (call_text []) (call-tidy e.src) r.src-rule)
-    (and_both (if e.has_fragment then fragment_in (behind e.has_fragment e.mid) (behind e.has_fragment e.index) (behind e.has_fragment e.total) else true) _
-    (part-tidy e.has_fragment e.mid e.index e.total r.fragment-rule)
-    (and_both (if e.has_stream then stream_in (if e.has_stream then stream_text (stream_bytes e.sid) else stream_text []) else true) _
-    (set-tidy stream_in e.has_stream e.sid (stream_text (stream_bytes e.sid)) (stream_text []) (stream-tidy e.sid) r.stream-rule)
+    (and_both (if_some ttl_in e.ttl) _ r.ttl-rule
+    (and_both (if_some call_in (option_map tidy_call e.src)) _ (some-tidy call_in tidy_call call-tidy e.src r.src-rule)
+    (and_both (if_some fragment_good e.fragment) _ r.fragment-rule
+    (and_both (if_some stream_good (option_map tidy_stream e.stream)) _ (some-tidy stream_good tidy_stream (λ s. stream-tidy s.sid) e.stream r.stream-rule)
     (and_both (headers (tidy_headers e.headers)) _ (headers-tidy e.headers room r.headers-rule) (address-tidy e.dst r.dst-rule))))))

@@ -1,4 +1,2 @@
--- Laws of single values, and what every public contract must show.
-pub mod Picks
-pub mod Single
+-- What every public contract must show.
 pub mod Unique

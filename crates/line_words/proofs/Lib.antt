@@ -1,3 +1,2 @@
--- Laws of flags, and what every public contract must show.
-pub mod Flags
+-- What every public contract must show.
 pub mod Unique

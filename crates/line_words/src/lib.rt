@@ -9,57 +9,33 @@ ghost use Rattle.line_words.specs.Standing.{may_stand, header_room, alike, all_o
 pub fn may_stand(chk: bool, key: usize, word: usize) -> bool
     ensures { result ≡ may_stand chk key word }
 {
-    if chk {
-        return false;
-    }
-    if key == word {
-        return false;
-    }
-    true
+    !chk && key != word
 }
 
 // A header with a value of `value` bytes, behind `count` others.
 pub fn header_fits(count: usize, value: usize) -> bool
     ensures { result ≡ header_room count value }
 {
-    if 8 <= count {
-        return false;
-    }
-    value <= 128
+    count < 8 && value <= 128
 }
 
 // Two keys, as `mid` and `frag`.
 pub fn both_or_neither(a: bool, b: bool) -> bool
     ensures { result ≡ alike a b }
 {
-    if a {
-        return b;
-    }
-    if b {
-        return false;
-    }
-    true
+    a == b
 }
 
 // `sid`, `sn` and `gt`.
 pub fn all_or_none(sid: bool, sn: bool, gt: bool) -> bool
     ensures { result ≡ all_or_none sid sn gt }
 {
-    if !both_or_neither(sid, sn) {
-        return false;
-    }
-    both_or_neither(sid, gt)
+    both_or_neither(sid, sn) && both_or_neither(sid, gt)
 }
 
 // By whether `fmt` is `p`, whether it is `d`, and whether `clen` is present.
 pub fn format_rule(plain: bool, deflated: bool, clen: bool) -> bool
     ensures { result ≡ format_rule plain deflated clen }
 {
-    if deflated {
-        return clen;
-    }
-    if clen {
-        return false;
-    }
-    plain
+    (plain || deflated) && both_or_neither(clen, deflated)
 }

@@ -5,11 +5,11 @@ use mathlib.Core.Bool.{Bool, true, false}
 use mathlib.Core.List.{List, [], ◌∷◌, ◌++◌, append_assoc, append-nil}
 use native.Mathlib.Omega.{arith}
 use lib.ListN.{length, get_or, set, take, drop, replicate, length-append, length-replicate}
-use lib.Seq.{set_at}
+use lib.Seq.{set_at, take_at}
 use borrow.Author.Tests.{lt-leb, leb-true, leb-false}
 use Rattle.octets.specs.Words.{◌≤?◌}
-use Rattle.octets.specs.Bytes.{placed}
-use Rattle.octets.proofs.Tests.{if_no, and-not-right}
+use Rattle.octets.specs.Bytes.{fits, placed}
+use Rattle.octets.proofs.Tests.{and-not-right}
 use Rattle.octets.proofs.Lists.{placed-in, drop-next}
 use Rattle.text.specs.Hex.{hex_digits}
 use Rattle.crc16.specs.Crc.{crc16}
@@ -19,77 +19,97 @@ use Rattle.line_refusals.specs.Order.{refuses_writing, line_good}
 use Rattle.line_refusals.proofs.Clear.{cleared}
 use Rattle.line.specs.Writing.{body_of, chk_token, print_of, line_written, message_good, write_refusal}
 use Rattle.line.specs.declared.Line.{Line}
-use Rattle.line_draft.specs.Draft.{full_draft, draft, added, Adds}
-use Rattle.line_draft.proofs.Drafts.{added_full, add-append, stays-full, adds_then}
+use Rattle.line_draft.specs.Drafts.{no_draft, full_draft, added}
+use Rattle.line_draft.specs.declared.Draft.{Draft}
+use Rattle.line_draft.proofs.Drafts.{added-fits, added_full, add-append, stays-full}
 use Rattle.line_body.specs.Held.{body_held}
 use Rattle.line_body.specs.Steps.{key_part}
-use Rattle.line_body.specs.declared.Body.{Body}
-use Rattle.line_body.proofs.Whole.{Holds, holds-long, holds-short, held-adds}
+use Rattle.line_body.proofs.Whole.{held}
 use Rattle.line_writer.specs.Answer.{Writing, Written, Refused, answer_by, left_by, write_answer, write_left}
-use Rattle.line_writer.specs.Steps.{chk_text}
+use Rattle.line_writer.specs.Steps.{chk_text, chk_behind}
 
 -- ---- `chk` behind the body
 
 chk-is : (b : List ℕ) → spaced (word_of (chk_token b) ∷ []) ≡ chk_text b
 chk-is b = ap (λ (l : List ℕ). key_part (chk_token b).key ++ l) (append-nil (hex_digits 4 (crc16 b)))
 
-module _ (m : Line) {l : List ℕ} {n : ℕ} {x : List ℕ} (a : Adds (added (body_of m)) l 0 n x) {r : ℕ} {z : List ℕ} (b : Adds (added (chk_text (take n x))) x n r z) where
-  abbrev both : Adds (λ d. added (chk_text (take n x)) (added (body_of m) d)) l 0 r z
-  both = adds_then a b
+-- a line that was put into an empty draft: its bytes, or too long
+pub record Holds (w : List ℕ) (d : Draft) : Type 0 where
+  pub len_is : d.len ≡ length w
+  pub text-is : take d.len d.bytes ≡ w
+
+module _ (w : List ℕ) (d : Draft) (e : d ≡ added w no_draft) where
+  abbrev blank : List ℕ
+  blank = replicate 512 0
+
+  long_is : length blank ≡ 512
+  long_is = length-replicate {A = ℕ} 512 0
+
+  holds-long : 512 < d.len → 512 < length w
+  holds-long h = go (fits w 0 blank) refl
+    where
+      go : (t : Bool) → fits w 0 blank ≡ t → 512 < length w
+      go true f =
+          let k = leb-true (0 + length w) (length blank) f in
+          let n : d.len ≡ 0 + length w = ap (λ (x : Draft). x.len) (e ∙ added-fits w no_draft f) in
+          absurd (omega (arith, long_is))
+      go false f = let k = leb-false (0 + length w) (length blank) f in omega (arith, long_is)
+
+  holds-short : d.len ≤ 512 → Holds w d
+  holds-short h = go (fits w 0 blank) refl
+    where
+      go : (t : Bool) → fits w 0 blank ≡ t → Holds w d
+      go false f = let n : d.len ≡ 513 = ap (λ (x : Draft). x.len) (e ∙ added_full w no_draft f) in absurd (omega arith)
+      go true f =
+          let k = leb-true (0 + length w) (length blank) f in
+          let g = e ∙ added-fits w no_draft f in
+          let n : d.len ≡ length w = ap (λ (x : Draft). x.len) g ∙ omega arith in
+          let z : 0 + length w ≡ length w = omega arith in
+          let b : d.bytes ≡ w ++ drop (length w) blank = ap (λ (x : Draft). x.bytes) g ∙ placed-in w 0 blank k ∙ ap (λ (i : ℕ). w ++ drop i blank) z in
+          record { len_is = n; text-is = ap (λ (i : ℕ). take i d.bytes) n ∙ ap (take (length w)) b ∙ take_at w (drop (length w) blank) (length w) refl }
+
+module _ (m : Line) (b : Draft) (is_b : b ≡ body_held m) (d : Draft) (is-d : d ≡ added (chk_behind b) b) where
+  body-put : b ≡ added (body_of m) no_draft
+  body-put = is_b ∙ sym (held m)
 
   abbrev behind : List ℕ
   behind = spaced (word_of (chk_token (body_of m)) ∷ [])
 
   -- a body that is too long stays too long
-  print-full : 512 < n → Adds (added (print_of m)) l 0 r z
-  unfolding print_of draft
-  print-full h = record {
-    draft-is = λ e.
-        let full : added (body_of m) (draft l 0) ≡ full_draft = sym (a.draft-is e) ∙ if_no _ _ _ (lt-leb n 512 h) in
-        both.draft-is e
-        ∙ ap (added (chk_text (take n x))) full
-        ∙ stays-full (chk_text (take n x))
-        ∙ sym (added_full (body_of m ++ behind) (record { bytes = l; len = 0 }) (lt-leb (0 + length (body_of m ++ behind)) (length l) (omega (arith, length-append (body_of m) behind, holds-long (body_of m) l n x e a h))));
-    long = both.long;
-  }
-
-  print-more : n ≤ 512 → Adds (added (print_of m)) l 0 r z
+  pub printed : d ≡ added (print_of m) no_draft
   unfolding print_of
-  print-more h = record {
-    draft-is = λ e.
-        both.draft-is e
-        ∙ ap (λ (t : List ℕ). added (chk_text t) (added (body_of m) (draft l 0))) (holds-short (body_of m) l n x e a h).text-is
-        ∙ add-append (body_of m) (chk_text (body_of m)) (draft l 0)
-        ∙ ap (λ (s : List ℕ). added (body_of m ++ s) (draft l 0)) (sym (chk-is (body_of m)));
-    long = both.long;
-  }
-
-  print-adds : Adds (added (print_of m)) l 0 r z
-  print-adds = go (n ≤? 512) refl
+  printed = go (b.len ≤? 512) refl
     where
-      go : (t : Bool) → (n ≤? 512) ≡ t → Adds (added (print_of m)) l 0 r z
-      go true e = print-more (leb-true n 512 e)
-      go false e = print-full (leb-false n 512 e)
+      go : (t : Bool) → (b.len ≤? 512) ≡ t → d ≡ added (body_of m ++ behind) no_draft
+      go true f =
+          is-d
+          ∙ ap (λ (t : List ℕ). added (chk_text t) b) (holds-short (body_of m) b body-put (leb-true b.len 512 f)).text-is
+          ∙ ap (added (chk_text (body_of m))) body-put
+          ∙ add-append (body_of m) (chk_text (body_of m)) no_draft
+          ∙ ap (λ (s : List ℕ). added (body_of m ++ s) no_draft) (sym (chk-is (body_of m)))
+      go false f =
+          let h = holds-long (body_of m) b body-put (leb-false b.len 512 f) in
+          let full : b ≡ full_draft = body-put ∙ added_full (body_of m) no_draft (lt-leb (0 + length (body_of m)) (length {A = ℕ} (replicate 512 0)) (omega (arith, length-replicate {A = ℕ} 512 0))) in
+          is-d
+          ∙ ap (added (chk_behind b)) full
+          ∙ stays-full (chk_behind b)
+          ∙ sym (added_full (body_of m ++ behind) no_draft (lt-leb (0 + length (body_of m ++ behind)) (length {A = ℕ} (replicate 512 0)) (omega (arith, length-append (body_of m) behind, length-replicate {A = ℕ} 512 0))))
 
 -- ---- the answer
 
-module _ (m : Line) (l : List ℕ) (v : Bool) (is-v : v ≡ envelope m.fields) (b : Body) (is_b : b ≡ body_held m)
-    {n : ℕ} {x : List ℕ} (c : Adds (added (chk_text (take b.len b.bytes))) b.bytes b.len n x)
-    (k : ℕ) (is-k : k ≡ refuses_writing (line_good v m.len n) m.len (n + 1) (length l)) where
+module _ (m : Line) (l : List ℕ) (v : Bool) (is-v : v ≡ envelope m.fields) (b : Draft) (is_b : b ≡ body_held m) (d : Draft) (is-d : d ≡ added (chk_behind b) b)
+    (k : ℕ) (is-k : k ≡ refuses_writing (line_good v m.len d.len) m.len (d.len + 1) (length l)) where
+  abbrev n : ℕ
+  n = d.len
+
   abbrev Left : Writing → List ℕ → Type 0
   Left r out = (r ≡ write_answer m l) × (out ≡ write_left m l)
 
-  whole : Adds (added (print_of m)) (replicate 512 0) 0 n x
-  whole = print-adds m (held-adds m b is_b) c
-
-  pub line-long : length x ≡ 512
-  line-long = whole.long ∙ length-replicate {A = ℕ} 512 0
-
-  holds : n ≤ 512 → Holds (print_of m) (replicate 512 0) n x
-  holds = holds-short (print_of m) (replicate 512 0) n x (length-replicate {A = ℕ} 512 0) whole
+  holds : n ≤ 512 → Holds (print_of m) d
+  holds = holds-short (print_of m) d (printed m b is_b d is-d)
 
   too_long : 512 < n → 512 < length (print_of m)
-  too_long = holds-long (print_of m) (replicate 512 0) n x (length-replicate {A = ℕ} 512 0) whole
+  too_long = holds-long (print_of m) d (printed m b is_b d is-d)
 
   abbrev valid : Bool
   valid = envelope m.fields
@@ -132,7 +152,7 @@ module _ (m : Line) (l : List ℕ) (v : Bool) (is-v : v ≡ envelope m.fields) (
     pub room : n < length l
     room = clear.1
 
-    pub all-written : (w out : List ℕ) → w ≡ take n x → out ≡ placed w 0 l → Left (Written (n + 1)) (set out n 0x0A)
+    pub all-written : (w out : List ℕ) → w ≡ take n d.bytes → out ≡ placed w 0 l → Left (Written (n + 1)) (set out n 0x0A)
     unfolding write_answer write_left
     all-written w out ew eo =
         let t = print_of m in

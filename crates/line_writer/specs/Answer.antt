@@ -1,19 +1,20 @@
 -- Document 01, "The ihave line": what the writer of a line answers, and what the lent buffer then holds.
-use Rattle.std.specs.Prelude.{ℕ, zero, suc, List, length}
+use Rattle.std.specs.Prelude.{ℕ, zero, suc, List, length, Result, Ok, Err}
 use Rattle.octets.specs.Bytes.{front}
+use Rattle.refusals.specs.declared.Refusal.{Refusal}
+use Rattle.refusals.specs.Refusals.{number_of}
 use Rattle.line.specs.Writing.{line_written, write_refusal}
 use Rattle.line.specs.declared.Line.{Line}
-use Rattle.line_writer.specs.declared.LineWriting.{LineWriting}
 
--- written, in so many bytes, its LF counted; refused, with the number of document 01's table
+-- written, in so many bytes, its LF counted; refused, with the number of the table
 pub data Writing : Type 0 where
   Written : (bytes : ℕ) → Writing
   Refused : (number : ℕ) → Writing
 
--- the paper's number and values for each case of the answer's enum
-abbrev pub says : LineWriting → Writing
-says (LineWriting.Written n) = Written n
-says (LineWriting.Refused n) = Refused n
+-- the number and the values for each case of what the code answers
+abbrev pub says : Result ℕ Refusal → Writing
+says (Ok n) = Written n
+says (Err r) = Refused (number_of r)
 
 -- by the number of the refusal, 0 where there is none: the number of bytes, its LF counted; the bytes at the front, or all as it was
 abbrev pub answer_by : ℕ → ℕ → Writing

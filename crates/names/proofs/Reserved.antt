@@ -113,11 +113,11 @@ counted-at a (suc n) zero h = omega arith
 counted-at a (suc n) (suc i) h = let k = counted-at (suc a) n i (omega arith) in omega arith
 
 places-counted : map key_place reserved_keys ≡ counted 0 13
-unfolding counted reserved_keys key_place place_in same
+unfolding counted reserved_keys key_place place_in
 places-counted = refl
 
 none-there : key_place [] ≡ 13
-unfolding reserved_keys key_place place_in same
+unfolding reserved_keys key_place place_in
 none-there = refl
 
 pub place-back : (i : ℕ) → i < 13 → key_place (get_or reserved_keys i []) ≡ i

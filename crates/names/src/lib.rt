@@ -99,6 +99,7 @@ pub const SN: usize = 11;
 pub const GT: usize = 12;
 
 // Whether a text is a stream id.
+#[tactic(auto, unfolding(crate::specs::Texts::stream_id))]
 pub fn is_stream_id(s: &[u8]) -> bool
     ensures { result ≡ stream_id s.now }
 {
@@ -106,19 +107,17 @@ pub fn is_stream_id(s: &[u8]) -> bool
 }
 
 // A key's place in the table of the reserved keys: 13 where it is none of them.
+// The number stays, and no `Option`: `key_place` says it, and the places of a line's fields are looked up by it.
 pub fn reserved_place(s: &[u8]) -> usize
     ensures { result ≡ key_place s.now }
 {
     let table = RESERVED;
-    let mut i = 0;
-    while i < 13 {
-        let w = table[i];
-        if words::spells(s, w) {
+    for (i, word) in table.iter().enumerate() {
+        if words::spells(s, *word) {
             return i;
         }
-        i += 1;
     }
-    i
+    13
 }
 
 // Whether a key is one of the thirteen reserved.
@@ -129,24 +128,17 @@ fn is_reserved(s: &[u8]) -> bool
 }
 
 // Whether a text is a header's key.
+#[tactic(auto, unfolding(crate::specs::Texts::header_key))]
 pub fn is_header_key(s: &[u8]) -> bool
     ensures { result ≡ header_key s.now }
 {
-    if !texts::is_id_text(s, 32) {
-        return false;
-    }
-    if is_reserved(s) {
-        return false;
-    }
-    true
+    texts::is_id_text(s, 32) && !is_reserved(s)
 }
 
 // Whether a text is a header's value.
+#[tactic(auto, unfolding(crate::specs::Texts::header_value))]
 pub fn is_header_value(s: &[u8]) -> bool
     ensures { result ≡ header_value s.now }
 {
-    if 128 < s.len() {
-        return false;
-    }
-    texts::is_ruled(s, true)
+    s.len() <= 128 && texts::is_ruled(s, true)
 }

@@ -6,11 +6,10 @@ ghost use Rattle.names.specs.Reserved.{spelling};
 use crate::Word;
 
 // Whether a text is what a padded spelling says.
+#[tactic(auto, unfolding(crate::specs::Reserved::spelling))]
 pub(crate) fn spells(s: &[u8], w: Word) -> bool
     requires { w.len ≤ 4 }
     ensures { result ≡ same s.now (spelling w) }
 {
-    let n = w.len;
-    let text = w.text;
-    octets::equal(s, &text[0..n])
+    s == &w.text[..w.len]
 }

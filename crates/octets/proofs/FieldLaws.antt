@@ -1,6 +1,6 @@
 -- The laws of a field, for each way of making one: what is written is read back, what is read is what would be written, and a read
 -- takes no more than there is.
-use Rattle.std.specs.Prelude.{if◌then◌else◌}
+use Rattle.std.specs.Prelude.{if◌then◌else◌, ℤ, Option, Some, None, is_some}
 use Prim.Native.Nat.{ℕ, zero, suc, ◌+◌, ◌^◌, ◌<◌, ◌≤◌}
 use mathlib.Core.Path.{◌≡◌, refl, ap, sym, ◌∙◌}
 use mathlib.Core.List.{List, [], ◌∷◌, ◌++◌, append_assoc, map}
@@ -16,8 +16,9 @@ use borrow.Author.Tests.{ltb-true, leb-true, eqb-true, lt-ltb, le-leb, lt-leb, e
 use Rattle.octets.specs.Words.{◌and◌, every, ◌≤?◌, ◌=?◌, ◌<?◌}
 use Rattle.octets.specs.Bytes.{Bytes}
 use Rattle.octets.specs.Numbers.{little, little_bytes, twos, from_twos}
-use Rattle.octets.specs.Field.{Res, bad, got, bind, Field, num, raw, only, when, seq, tagged, through, many_parse, many_print, many, signed_num}
-use Rattle.octets.proofs.Tests.{if_yes, if_no, and_left, and_right, and_both}
+use Rattle.octets.specs.Reading.{read_as}
+use Rattle.octets.specs.Field.{Res, bad, got, bind, Field, num, raw, only, when, given, seq, tagged, through, many_parse, many_print, many, signed_num}
+use Rattle.octets.proofs.Tests.{if_yes, if_no, true-not-false, and_left, and_right, and_both}
 use Rattle.octets.proofs.SignLaws.{bits64, twos-kit, from-kit}
 use Rattle.octets.proofs.NumberLaws.{length-bytes, read-written, little-less, written_read, bytes_drop, bytes_take}
 
@@ -157,6 +158,47 @@ when-laws false blank F lf = record {
       moved (when false blank F) s a blank n 0 ea en (record { good = refl; tidied = refl; size = refl; same = refl });
   room = λ s a n e. let en : n ≡ 0 = cc in omega arith;
 }
+
+-- a field of an Option
+given-back : {A : Type 0} (b : Bool) (F : Field A) → Laws F → (o : Option A) (t : List ℕ) → (given b F).ok o ≡ true
+    → (given b F).parse ((given b F).print o ++ t) ≡ got ((given b F).tidy o) (length ((given b F).print o))
+given-back true F lf None t h = true-not-false false h refl
+given-back false F lf None t h = refl
+given-back true F lf (Some x) t h = rw (lf.back x t h)
+given-back false F lf (Some x) t h = true-not-false false h refl
+
+given-forth : {A : Type 0} (b : Bool) (F : Field A) → Laws F → (s : List ℕ) (o : Option A) (n : ℕ) → Bytes s → (given b F).parse s ≡ got o n → Read (given b F) s o n
+given-forth true F lf s o n hs e =
+    let b1 = bound (F.parse s) (λ a n. got (Some a) n) o n e in
+    let r = lf.forth s b1.val b1.used hs b1.first in
+    let eo : o ≡ Some b1.val = cc in
+    let en : n ≡ b1.used = cc in
+    moved (given true F) s o (Some b1.val) n b1.used eo en (record { good = r.good; tidied = ap Some r.tidied; size = r.size; same = r.same })
+given-forth false F lf s o n hs e =
+    let eo : o ≡ None = cc in
+    let en : n ≡ 0 = cc in
+    moved (given false F) s o None n 0 eo en (record { good = refl; tidied = refl; size = refl; same = refl })
+
+given-room : {A : Type 0} (b : Bool) (F : Field A) → Laws F → (s : List ℕ) (o : Option A) (n : ℕ) → (given b F).parse s ≡ got o n → n ≤ length s
+given-room true F lf s o n e =
+    let b1 = bound (F.parse s) (λ a n. got (Some a) n) o n e in
+    let en : n ≡ b1.used = cc in
+    omega (arith, lf.room s b1.val b1.used b1.first)
+given-room false F lf s o n e = let en : n ≡ 0 = cc in omega arith
+
+pub given-laws : {A : Type 0} (b : Bool) (F : Field A) → Laws F → Laws (given b F)
+given-laws b F lf = record {
+  back = λ o t h. given-back b F lf o t h;
+  forth = λ s o n hs e. given-forth b F lf s o n hs e;
+  room = λ s o n e. given-room b F lf s o n e;
+}
+
+-- a good one is Some exactly where it is to be there
+pub given-there : {A : Type 0} (b : Bool) (F : Field A) (o : Option A) → (given b F).ok o ≡ true → is_some o ≡ b
+given-there true F None h = true-not-false false h refl
+given-there false F None h = refl
+given-there true F (Some x) h = refl
+given-there false F (Some x) h = true-not-false false h refl
 
 -- the second field must not depend on what tidying the first clears
 pub seq-laws : {A B : Type 0} (F : Field A) (G : A → Field B) → ((a : A) → F.ok a ≡ true → G (F.tidy a) ≡ G a) → Laws F → ((a : A) → Laws (G a)) → Laws (seq F G)
@@ -301,3 +343,11 @@ signed-short s h = rw (num-short 8 s h)
 
 pub signed-read : (s : List ℕ) (v : ℕ) → 8 ≤ length s → v ≡ little (take 8 s) → signed_num.parse s ≡ got (from_twos v) 8
 signed-read s v h e = rw (num-read 8 s v h e)
+
+-- the reader of a signed number finds what the field finds
+pub signed-as : (s : List ℕ) → read_as from_twos ((num 8).parse s) ≡ read_as (λ (z : ℤ). z) (signed_num.parse s)
+signed-as s = go ((num 8).parse s)
+  where
+    go : (x : Res ℕ) → read_as from_twos x ≡ read_as (λ (z : ℤ). z) (bind x (λ a n. got (from_twos a) n))
+    go bad = refl
+    go (got a n) = refl

@@ -49,12 +49,10 @@ every-at p (x ∷ s) (suc i) d e h = every-at p s i d (and_right (p x) (every p 
 -- ---- the same text
 
 pub same_refl : (s : List ℕ) → same s s ≡ true
-unfolding same
 same_refl [] = refl
 same_refl (x ∷ s) = rw (eq-eqb x x refl) (same_refl s)
 
 pub same-eq : (s t : List ℕ) → same s t ≡ true → s ≡ t
-unfolding same
 same-eq [] [] e = refl
 same-eq [] (y ∷ t) e = true-not-false false e refl
 same-eq (x ∷ s) [] e = true-not-false false e refl
@@ -82,7 +80,6 @@ same-short s t h = go (same s t) refl
 
 module _ (s t : List ℕ) (i : ℕ) (h : i < length s) (k : i < length t) where
   same-split : same (drop i s) (drop i t) ≡ (get_or s i 0 =? get_or t i 0) and same (drop (i + 1) s) (drop (i + 1) t)
-  unfolding same
   same-split = rw (drop-next s i 0 h, drop-next t i 0 k)
 
   pub same_next : get_or s i 0 ≡ get_or t i 0 → same (drop i s) (drop i t) ≡ same (drop (i + 1) s) (drop (i + 1) t)
@@ -92,7 +89,6 @@ module _ (s t : List ℕ) (i : ℕ) (h : i < length s) (k : i < length t) where
   same_not e = same-split ∙ and-not-left _ _ (ne_eqb _ _ e)
 
 pub same_end : (s t : List ℕ) (i : ℕ) → i ≡ length s → i ≡ length t → same (drop i s) (drop i t) ≡ true
-unfolding same
 same_end s t i e f = rw (e) (rw (drop-length s) (rw (sym e ∙ f, drop-length t)))
 
 -- ---- bytes in a lent buffer

@@ -1,20 +1,17 @@
 -- Every public function leaves one outcome and asks nothing.
-use mathlib.Core.Path.{refl, sym, ◌∙◌}
+use Rattle.std.proofs.Common.{ℕ, refl, sym, ◌∙◌}
+use mathlib.Core.List.{Mem, not-mem-nil}
+use mir.Syntax.{Width}
+use denote.Plain.{UInt}
+use denote.Signed.{SInt}
+use denote.RattleType.{RattleType}
 use Rattle.octets.specs.Unique.{One, Free}
 use Rattle.octets.proofs.equal.Kinds as equal-kinds
 use Rattle.octets.proofs.equal.Reads as equal-reads
 use Rattle.octets.proofs.copy_at.Kinds as copy-at-kinds
 use Rattle.octets.proofs.copy_at.Reads as copy-at-reads
-use Rattle.octets.proofs.read_u8.Kinds as read-u8-kinds
-use Rattle.octets.proofs.read_u8.Reads as read-u8-reads
-use Rattle.octets.proofs.read_u16.Kinds as read-u16-kinds
-use Rattle.octets.proofs.read_u16.Reads as read-u16-reads
-use Rattle.octets.proofs.read_u32.Kinds as read-u32-kinds
-use Rattle.octets.proofs.read_u32.Reads as read-u32-reads
-use Rattle.octets.proofs.read_u64.Kinds as read-u64-kinds
-use Rattle.octets.proofs.read_u64.Reads as read-u64-reads
-use Rattle.octets.proofs.read_i64.Kinds as read-i64-kinds
-use Rattle.octets.proofs.read_i64.Reads as read-i64-reads
+use Rattle.octets.proofs.read.Kinds as read-kinds
+use Rattle.octets.proofs.read.Reads as read-reads
 use Rattle.octets.proofs.put_number.Kinds as put-number-kinds
 use Rattle.octets.proofs.put_number.Reads as put-number-reads
 use Rattle.octets.proofs.put_i64.Kinds as put-i64-kinds
@@ -32,35 +29,19 @@ copy-at-one κs a x y v w p q = (p.0 ∙ sym q.0, λ i. (tt, ((p.1 ∙ sym q.1) 
 pub copy-at-free : Free 2 copy-at-kinds.ps copy-at-reads.Pre
 copy-at-free κs a = tt
 
-pub read-u8-one : One 1 read-u8-kinds.ps read-u8-kinds.r read-u8-reads.Post
-read-u8-one κs a x y v w p q = (p ∙ sym q, refl)
+pub read-one : (T : _) (l : _) (c : _) (m : _) (d : _) (n : _) (e : _) → One 2 (read-kinds.ps T l c) (read-kinds.r T l c) (read-reads.Post T l c m d n e)
+read-one T l c m d n e κs a x y v w p q = (p ∙ sym q, refl)
 
-pub read-u8-free : Free 1 read-u8-kinds.ps read-u8-reads.Pre
-read-u8-free κs a = tt
+-- of a type that holds no reference, as numbers do not
+pub read-free : (T : RattleType) (l : _) (c : _) (m : _) (d : _) (n : _) (e : _) → ((b : ℕ) → Mem b T.lives → ⊥) → Free 2 (read-kinds.ps T l c) (read-reads.Pre T l c m d n e)
+read-free T l c m d n e none κs a b h = absurd (none b h)
 
-pub read-u16-one : One 1 read-u16-kinds.ps read-u16-kinds.r read-u16-reads.Post
-read-u16-one κs a x y v w p q = (p ∙ sym q, refl)
+-- so of every unsigned number, and of every signed one
+pub read-unsigned-free : (w : Width) (l : _) (c : _) (m : _) (d : _) (n : _) (e : _) → Free 2 (read-kinds.ps (UInt w) l c) (read-reads.Pre (UInt w) l c m d n e)
+read-unsigned-free w l c m d n e = read-free (UInt w) l c m d n e (λ b h. not-mem-nil h)
 
-pub read-u16-free : Free 1 read-u16-kinds.ps read-u16-reads.Pre
-read-u16-free κs a = tt
-
-pub read-u32-one : One 1 read-u32-kinds.ps read-u32-kinds.r read-u32-reads.Post
-read-u32-one κs a x y v w p q = (p ∙ sym q, refl)
-
-pub read-u32-free : Free 1 read-u32-kinds.ps read-u32-reads.Pre
-read-u32-free κs a = tt
-
-pub read-u64-one : One 1 read-u64-kinds.ps read-u64-kinds.r read-u64-reads.Post
-read-u64-one κs a x y v w p q = (p ∙ sym q, refl)
-
-pub read-u64-free : Free 1 read-u64-kinds.ps read-u64-reads.Pre
-read-u64-free κs a = tt
-
-pub read-i64-one : One 1 read-i64-kinds.ps read-i64-kinds.r read-i64-reads.Post
-read-i64-one κs a x y v w p q = (p ∙ sym q, refl)
-
-pub read-i64-free : Free 1 read-i64-kinds.ps read-i64-reads.Pre
-read-i64-free κs a = tt
+pub read-signed-free : (w : Width) (l : _) (c : _) (m : _) (d : _) (n : _) (e : _) → Free 2 (read-kinds.ps (SInt w) l c) (read-reads.Pre (SInt w) l c m d n e)
+read-signed-free w l c m d n e = read-free (SInt w) l c m d n e (λ b h. not-mem-nil h)
 
 pub put-number-one : One 1 put-number-kinds.ps put-number-kinds.r put-number-reads.Post
 put-number-one κs a x y v w p q = (p.0 ∙ sym q.0, λ i. (tt, (tt, ((p.1 ∙ sym q.1) i, (tt, tt)))))

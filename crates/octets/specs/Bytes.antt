@@ -1,6 +1,7 @@
 -- Lists of bytes: when two are the same, and what a lent buffer holds after bytes were written into it.
-use Rattle.std.specs.Prelude.{ℕ, ◌+◌, ◌<◌, Bool, true, false, List, [], ◌∷◌, ◌++◌, length, take, drop, get_or, if◌then◌else◌}
-use Rattle.octets.specs.Words.{◌and◌, every, ◌≤?◌, ◌=?◌}
+use Rattle.std.specs.Prelude.{ℕ, ◌+◌, ◌<◌, Bool, List, ◌++◌, length, take, drop, get_or, if◌then◌else◌}
+use Rattle.std.specs.Str.{bytes_eq}
+use Rattle.octets.specs.Words.{every, ◌≤?◌, ◌=?◌}
 
 -- every number of the list is a byte
 abbrev pub Bytes : List ℕ → Type 0
@@ -11,11 +12,8 @@ abbrev pub all_zero : List ℕ → Bool
 all_zero s = every (λ b. b =? 0) s
 
 -- two texts are the same: byte for byte, and neither goes on
-unfoldable pub same : List ℕ → List ℕ → Bool
-same [] [] = true
-same [] (y ∷ t) = false
-same (x ∷ s) [] = false
-same (x ∷ s) (y ∷ t) = x =? y and same s t
+abbrev pub same : List ℕ → List ℕ → Bool
+same s t = bytes_eq s t
 
 -- the buffer with w in the place of its first bytes
 abbrev pub front : {A : Type 0} → List A → List A → List A

@@ -1,8 +1,8 @@
 -- A field of a binary format: how it is read from the front of a list of bytes, how it is written, which values it may hold, and
 -- what of a value counts. A format is put together from fields; its reader, its writer and its rules then come from one text.
-use Rattle.std.specs.Prelude.{ℕ, zero, suc, ◌+◌, ◌^◌, List, [], ◌∷◌, ◌++◌, map, Bool, true, false, length, take, drop, ℤ, if◌then◌else◌}
+use Rattle.std.specs.Prelude.{ℕ, zero, suc, ◌+◌, ◌^◌, List, [], ◌∷◌, ◌++◌, map, Bool, true, false, length, take, drop, ℤ, Option, Some, None, option_map, if◌then◌else◌}
 use Rattle.std.specs.Int.Signed.{mag}
-use Rattle.octets.specs.Words.{◌and◌, every, ◌<?◌, ◌≤?◌, ◌=?◌}
+use Rattle.octets.specs.Words.{◌and◌, no, every, ◌<?◌, ◌≤?◌, ◌=?◌}
 use Rattle.octets.specs.Numbers.{little, little_bytes, twos, from_twos}
 
 -- what reading finds: a value with the number of bytes that it took, or nothing
@@ -52,6 +52,23 @@ only p F = record {
 abbrev pub when : {A : Type 0} → Bool → A → Field A → Field A
 when true blank F = F
 when false blank F = record { parse = λ s. got blank 0; print = λ a. []; ok = λ a. true; tidy = λ a. blank }
+
+-- a field of an Option: where b is true it is there, and read in Some; where b is false there is None, and nothing is read
+abbrev pub given_print : {A : Type 0} → Field A → Option A → List ℕ
+given_print F None = []
+given_print F (Some x) = F.print x
+
+abbrev pub given_ok : {A : Type 0} → Bool → Field A → Option A → Bool
+given_ok b F None = no b
+given_ok b F (Some x) = b and F.ok x
+
+abbrev pub given : {A : Type 0} → Bool → Field A → Field (Option A)
+given b F = record {
+  parse = λ s. if b then bind (F.parse s) (λ a n. got (Some a) n) else got None 0;
+  print = given_print F;
+  ok = given_ok b F;
+  tidy = option_map F.tidy;
+}
 
 -- a field and then one that depends on its value
 abbrev pub seq : {A B : Type 0} → Field A → (A → Field B) → Field (A × B)

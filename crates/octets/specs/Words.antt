@@ -1,5 +1,6 @@
 -- The words in which every definition is written: tests that compute, a choice by a test, and tests of every element of a list.
-use Rattle.std.specs.Prelude.{ℕ, Bool, true, false, List, [], ◌∷◌, ltb, leb, eqb}
+use Rattle.std.specs.Prelude.{ℕ, Bool, List, ltb, leb, eqb, ◌&&◌, ◌||◌, not}
+use Rattle.std.specs.List.{list_all, list_any}
 
 infixr 30 ◌and◌
 infixr 25 ◌or◌
@@ -7,16 +8,13 @@ infix 40 ◌<?◌
 infix 40 ◌≤?◌
 infix 40 ◌=?◌
 abbrev pub ◌and◌ : Bool → Bool → Bool
-true and b = b
-false and b = false
+a and b = a && b
 
 abbrev pub ◌or◌ : Bool → Bool → Bool
-true or b = true
-false or b = b
+a or b = a || b
 
 abbrev pub no : Bool → Bool
-no true = false
-no false = true
+no b = not b
 
 abbrev pub ◌<?◌ : ℕ → ℕ → Bool
 a <? b = ltb a b
@@ -33,10 +31,8 @@ between low high x = low ≤? x and x ≤? high
 
 -- every element passes the test
 abbrev pub every : {A : Type 0} → (A → Bool) → List A → Bool
-every p [] = true
-every p (x ∷ l) = p x and every p l
+every p l = list_all p l
 
 -- some element passes the test
 abbrev pub some : {A : Type 0} → (A → Bool) → List A → Bool
-some p [] = false
-some p (x ∷ l) = p x or some p l
+some p l = list_any p l

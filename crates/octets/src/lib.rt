@@ -2,60 +2,19 @@
 // Whatever is written goes to a place of a lent buffer; what does not fit there changes no byte, and the answer says so.
 #![tactic(auto)]
 
-ghost use Rattle.std.specs.Prelude.{◌≡◌};
+ghost use Rattle.std.specs.Prelude.{◌≡◌, ◌%◌, ◌^◌, ◌≤◌, ℕ};
 ghost use Rattle.octets.specs.Bytes.{same, fits, placed};
-ghost use Rattle.octets.specs.Numbers.{little_bytes, twos};
-ghost use Rattle.octets.specs.Field.{num, signed_num};
-ghost use Rattle.octets.specs.Reading.{read8, read16, read32, read64, read_signed};
+ghost use Rattle.octets.specs.Numbers.{little_bytes, twos, from_twos};
+ghost use Rattle.octets.specs.Field.{num};
+ghost use Rattle.octets.specs.Reading.{read_as};
 
 mod numbers;
-
-// What reading a number from the front of a part finds: the number with the bytes used, or a part too short for it.
-#[derive(Clone, Copy)]
-pub enum Read8 {
-    Got(u8, usize),
-    Short,
-}
-
-#[derive(Clone, Copy)]
-pub enum Read16 {
-    Got(u16, usize),
-    Short,
-}
-
-#[derive(Clone, Copy)]
-pub enum Read32 {
-    Got(u32, usize),
-    Short,
-}
-
-#[derive(Clone, Copy)]
-pub enum Read64 {
-    Got(u64, usize),
-    Short,
-}
-
-#[derive(Clone, Copy)]
-pub enum ReadSigned {
-    Got(i64, usize),
-    Short,
-}
 
 // Whether two slices hold the same bytes.
 pub fn equal(a: &[u8], b: &[u8]) -> bool
     ensures { result ≡ same a.now b.now }
 {
-    if a.len() != b.len() {
-        return false;
-    }
-    let mut i = 0;
-    while i < a.len() {
-        if a[i] != b[i] {
-            return false;
-        }
-        i += 1;
-    }
-    true
+    a == b
 }
 
 // The bytes of `src` at the place `at` of a lent buffer.
@@ -68,59 +27,106 @@ pub fn copy_at(src: &[u8], out: &mut [u8], at: usize) -> bool
     if out.len() - at < src.len() {
         return false;
     }
-    let mut i = 0;
-    while i < src.len() {
-        out[at + i] = src[i];
-        i += 1;
-    }
+    out[at..at + src.len()].copy_from_slice(src);
     true
 }
 
 // ---- numbers, the lowest byte first
 
-pub fn read_u8(s: &[u8]) -> Read8
-    ensures { result ≡ read8 ((num 1).parse s.now) }
-{
-    if s.len() < 1 {
-        return Read8::Short;
-    }
-    Read8::Got(numbers::gather(s, 1) as u8, 1)
+// A type of numbers that are read from a fixed count of bytes.
+pub trait Little: Copy {
+    // How many bytes, and the value that their number stands for.
+    ghost width: { ℕ };
+
+    ghost value: { ℕ → Self };
+
+    fn width() -> usize
+        ensures { (result ≡ width) × (result ≤ 8) };
+
+    // What the lowest bytes of a number stand for.
+    fn of(number: u64) -> Self
+        ensures { result ≡ value (number % 256 ^ width) };
 }
 
-pub fn read_u16(s: &[u8]) -> Read16
-    ensures { result ≡ read16 ((num 2).parse s.now) }
-{
-    if s.len() < 2 {
-        return Read16::Short;
+impl Little for u8 {
+    ghost width = { 1 };
+
+    ghost value = { λ n. n };
+
+    fn width() -> usize {
+        1
     }
-    Read16::Got(numbers::gather(s, 2) as u16, 2)
+
+    fn of(number: u64) -> u8 {
+        (number % 0x100) as u8
+    }
 }
 
-pub fn read_u32(s: &[u8]) -> Read32
-    ensures { result ≡ read32 ((num 4).parse s.now) }
-{
-    if s.len() < 4 {
-        return Read32::Short;
+impl Little for u16 {
+    ghost width = { 2 };
+
+    ghost value = { λ n. n };
+
+    fn width() -> usize {
+        2
     }
-    Read32::Got(numbers::gather(s, 4) as u32, 4)
+
+    fn of(number: u64) -> u16 {
+        (number % 0x1_0000) as u16
+    }
 }
 
-pub fn read_u64(s: &[u8]) -> Read64
-    ensures { result ≡ read64 ((num 8).parse s.now) }
-{
-    if s.len() < 8 {
-        return Read64::Short;
+impl Little for u32 {
+    ghost width = { 4 };
+
+    ghost value = { λ n. n };
+
+    fn width() -> usize {
+        4
     }
-    Read64::Got(numbers::gather(s, 8), 8)
+
+    fn of(number: u64) -> u32 {
+        (number % 0x1_0000_0000) as u32
+    }
 }
 
-pub fn read_i64(s: &[u8]) -> ReadSigned
-    ensures { result ≡ read_signed (signed_num.parse s.now) }
-{
-    if s.len() < 8 {
-        return ReadSigned::Short;
+impl Little for u64 {
+    ghost width = { 8 };
+
+    ghost value = { λ n. n };
+
+    fn width() -> usize {
+        8
     }
-    ReadSigned::Got(numbers::to_signed(numbers::gather(s, 8)), 8)
+
+    fn of(number: u64) -> u64 {
+        number
+    }
+}
+
+impl Little for i64 {
+    ghost width = { 8 };
+
+    ghost value = { from_twos };
+
+    fn width() -> usize {
+        8
+    }
+
+    fn of(number: u64) -> i64 {
+        numbers::to_signed(number)
+    }
+}
+
+// The number at the front of a part, with the bytes used; none where the part is too short for it.
+pub fn read<T: Little>(s: &[u8]) -> Option<(T, usize)>
+    ensures { result ≡ read_as T.value ((num T.width).parse s.now) }
+{
+    let width = T::width();
+    if s.len() < width {
+        return None;
+    }
+    Some((T::of(numbers::gather(s, width)), width))
 }
 
 // The lowest `width` bytes of a number, the lowest first, at the place `at` of a lent buffer.
@@ -134,11 +140,9 @@ pub fn put_number(v: u64, width: usize, out: &mut [u8], at: usize) -> bool
         return false;
     }
     let mut rest = v;
-    let mut i = 0;
-    while i < width {
+    for i in 0..width {
         out[at + i] = (rest % 256) as u8;
         rest /= 256;
-        i += 1;
     }
     true
 }

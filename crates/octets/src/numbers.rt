@@ -2,22 +2,14 @@
 ghost use Rattle.std.specs.Prelude.{◌≡◌, ◌^◌, ◌<◌, ◌≤◌, length, take};
 ghost use Rattle.octets.specs.Numbers.{little, twos, from_twos};
 
-fn wide(x: u8) -> u64
-    ensures { (result ≡ x) × (result < 256) }
-{
-    x as u64
-}
-
 // The number in the first w bytes, from the highest byte down.
 pub(crate) fn gather(s: &[u8], w: usize) -> u64
     requires { (w ≤ 8) × (w ≤ length s.now) }
     ensures { (result ≡ little (take w s.now)) × (result < 256 ^ w) }
 {
     let mut v: u64 = 0;
-    let mut i = w;
-    while 0 < i {
-        i -= 1;
-        v = v * 256 + wide(s[i]);
+    for i in (0..w).rev() {
+        v = v * 256 + u64::from(s[i]);
     }
     v
 }

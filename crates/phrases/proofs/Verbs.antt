@@ -1,41 +1,31 @@
--- Words: what begins a line, and what a line spells in any letter case.
+-- Words: what begins a line, and the line `data ID`.
 use mathlib.Core.Path.{◌≡◌, refl, sym, ap, ◌∙◌}
-use Prim.Native.Nat.{ℕ, zero, suc, ◌+◌, ◌-◌, ◌<◌}
+use Prim.Native.Nat.{ℕ, zero, suc, ◌+◌, ◌<◌}
 use native.Mathlib.Omega.{arith}
 use native.Mathlib.Numerals.{add-one}
 use mathlib.Core.Bool.{Bool, true, false}
-use mathlib.Core.List.{List, [], ◌∷◌, ◌++◌, map, append-nil}
-use lib.ListN.{length, take, drop, replicate, get_or, length-take, length-append, drop_of_length-le, length-map}
+use mathlib.Core.List.{List, [], ◌∷◌, ◌++◌, append-nil}
+use lib.ListN.{length, take, drop, replicate, get_or}
 use lib.Seq.{take-suc, take_all, take-append_seam}
-use borrow.Author.Tests.{eq-eqb, ne_eqb}
-use Rattle.octets.specs.Words.{◌and◌, ◌or◌, some, ◌=?◌}
+use borrow.Author.Tests.{eq-eqb}
+use Rattle.octets.specs.Words.{◌and◌, ◌=?◌}
 use Rattle.octets.specs.Bytes.{same, placed}
-use Rattle.octets.proofs.Tests.{if_yes, if_no, or-next, or_left, and-next, and-not-left, true-not-false}
-use Rattle.octets.proofs.Lists.{same_refl, same-eq, same-short, drop-next, placed-in}
+use Rattle.octets.proofs.Tests.{or-next, and-next, true-not-false}
+use Rattle.octets.proofs.Lists.{same_refl, same-eq, same-short, placed-in}
 use Rattle.text.specs.Hex.{hex_digits}
 use Rattle.text.proofs.Numerals.{length_digits}
-use Rattle.phrases.specs.declared.Kind.{Kind}
-use Rattle.phrases.specs.Lines.{ihave, data-word, verb, lower, spells, leaving, asking, kind_of, is_data}
+use Rattle.phrases.specs.Lines.{data-word, verb, is_data}
 
 -- a test that is true only where something false holds is false
 refuted : (b : Bool) → (b ≡ true → ⊥) → b ≡ false
 refuted true f = absurd (f refl)
 refuted false f = refl
 
--- a part from the start
-pub from_start : (n : ℕ) (s w : List ℕ) → same (take (n - 0) s) w ≡ same (take n s) w
-from_start n s w = let z : n - 0 ≡ n = omega arith in ap (λ (k : ℕ). same (take k s) w) z
-
 -- ---- a word, or the word and a space
 
 verb-none : (word s : List ℕ) → (s ≡ word → ⊥) → (take (length word + 1) s ≡ word ++ (32 ∷ []) → ⊥) → verb word s ≡ false
 unfolding verb
 verb-none word s f g = or-next _ _ (refuted _ (λ e. f (same-eq s word e))) ∙ refuted _ (λ e. g (same-eq _ _ e))
-
-pub verb-short : (word s : List ℕ) → length s < length word → verb word s ≡ false
-verb-short word s h =
-    verb-none word s (λ e. omega (arith, ap length e))
-    (λ e. omega (arith, ap length e, length-append word (32 ∷ []), length-take (length word + 1) s))
 
 front_of : (word s : List ℕ) → take (length word + 1) s ≡ word ++ (32 ∷ []) → take (length word) s ≡ word
 front_of word s e = sym (shorter (length word) s) ∙ ap (take (length word)) e ∙ take-append_seam word (32 ∷ [])
@@ -53,12 +43,7 @@ verb-not word s n =
     verb-none word s (λ e. true-not-false _ (ap (λ (t : List ℕ). same t word) (ap (take (length word)) e ∙ take_all (length word) word (omega arith)) ∙ same_refl word) n)
     (λ e. true-not-false _ (ap (λ (t : List ℕ). same t word) (front_of word s e) ∙ same_refl word) n)
 
-pub verb-whole : (word s : List ℕ) → same (take (length word) s) word ≡ true → length s ≡ length word → verb word s ≡ true
-unfolding verb
-verb-whole word s e h = or_left _ _ (ap (λ (t : List ℕ). same t word) (sym (take_all (length word) s (omega arith))) ∙ e)
-
 same-last : (w : List ℕ) (x y : ℕ) → same (w ++ (x ∷ [])) (w ++ (y ∷ [])) ≡ x =? y
-unfolding same
 same-last [] x y = go (x =? y)
   where
     go : (b : Bool) → b and true ≡ b
@@ -73,45 +58,6 @@ verb-more word s e h =
     or-next _ _ (same-short s word (λ z. omega arith))
     ∙ ap (λ (l : List ℕ). same l (word ++ (32 ∷ []))) (rw (add-one (length word)) (take-suc s (length word) 0 h) ∙ ap (λ (l : List ℕ). l ++ (get_or s (length word) 0 ∷ [])) t)
     ∙ same-last word (get_or s (length word) 0) 32
-
--- ---- letters
-
--- the rest of a line spells the rest of a word
-pub spells-short : (s w : List ℕ) → (length s ≡ length w → ⊥) → spells s w ≡ false
-unfolding spells
-spells-short s w h = same-short (map lower s) w (λ e. h (sym (length-map s lower) ∙ e))
-
-pub spells-next : (s w : List ℕ) (i : ℕ) → i < length s → i < length w → lower (get_or s i 0) ≡ get_or w i 0 → spells (drop i s) (drop i w) ≡ spells (drop (i + 1) s) (drop (i + 1) w)
-unfolding spells same
-spells-next s w i h k e = rw (drop-next s i 0 h, drop-next w i 0 k) (and-next _ _ (eq-eqb _ _ e))
-
-pub spells-not : (s w : List ℕ) (i : ℕ) → i < length s → i < length w → (lower (get_or s i 0) ≡ get_or w i 0 → ⊥) → spells (drop i s) (drop i w) ≡ false
-unfolding spells same
-spells-not s w i h k e = rw (drop-next s i 0 h, drop-next w i 0 k) (and-not-left _ _ (ne_eqb _ _ e))
-
-pub spells-end : (s w : List ℕ) (i : ℕ) → i ≡ length s → i ≡ length w → spells (drop i s) (drop i w) ≡ true
-unfolding spells same
-spells-end s w i h k = rw (drop_of_length-le s {i = i} (omega arith), drop_of_length-le w {i = i} (omega arith))
-
--- ---- the kind
-
--- the last word of a list
-pub or-false : (a : Bool) → a or false ≡ a
-or-false true = refl
-or-false false = refl
-
-module _ (s : List ℕ) (i : verb ihave s ≡ false) (d : verb data-word s ≡ false) where
-  pub leaving-is : some (spells s) leaving ≡ true → kind_of s ≡ Kind.Leave
-  unfolding kind_of
-  leaving-is l = if_no _ _ _ i ∙ if_no _ _ _ d ∙ if_yes _ _ _ l
-
-  pub asking-is : some (spells s) leaving ≡ false → some (spells s) asking ≡ true → kind_of s ≡ Kind.Ask
-  unfolding kind_of
-  asking-is l a = if_no _ _ _ i ∙ if_no _ _ _ d ∙ if_no _ _ _ l ∙ if_yes _ _ _ a
-
-  pub other-is : some (spells s) leaving ≡ false → some (spells s) asking ≡ false → kind_of s ≡ Kind.Other
-  unfolding kind_of
-  other-is l a = if_no _ _ _ i ∙ if_no _ _ _ d ∙ if_no _ _ _ l ∙ if_no _ _ _ a
 
 -- ---- `data ID`
 

@@ -1,6 +1,7 @@
 -- Document 01, "The receiving session": what a peer's line is.
 use Rattle.std.specs.Prelude.{ℕ, ◌+◌, Bool, List, [], ◌∷◌, ◌++◌, map, length, take, if◌then◌else◌}
-use Rattle.octets.specs.Words.{◌or◌, some, between}
+use Rattle.std.specs.Char.{to_ascii_lowercase}
+use Rattle.octets.specs.Words.{◌or◌, some}
 use Rattle.octets.specs.Bytes.{same}
 use Rattle.text.specs.Hex.{hex_digits}
 pub use Rattle.tokens.specs.Tokens.{ihave}
@@ -17,7 +18,7 @@ verb word s = same s word or same (take (length word + 1) s) (word ++ (0x20 ∷ 
 
 -- in any letter case
 abbrev pub lower : ℕ → ℕ
-lower x = if between 65 90 x then x + 32 else x
+lower x = to_ascii_lowercase x
 
 unfoldable pub spells : List ℕ → List ℕ → Bool
 spells s word = same (map lower s) word

@@ -17,6 +17,7 @@ pub enum Kind {
 }
 
 // What a line is.
+#[tactic(auto, unfolding(crate::specs::Lines::kind_of))]
 pub fn kind_of(s: &[u8]) -> Kind
     ensures { result ≡ kind_of s.now }
 {
@@ -41,5 +42,5 @@ pub fn is_data(id: u32, s: &[u8]) -> bool
 {
     let mut line = *b"data 0000000";
     text::write_id(id, &mut line, 5);
-    octets::equal(s, &line)
+    s == line.as_slice()
 }

@@ -1,78 +1,74 @@
 -- The sixteen places and the list in them: what a turn of each loop comes to, and how a list stands in its places.
 use Rattle.std.specs.Prelude.{if◌then◌else◌}
-use mathlib.Core.Path.{◌≡◌, refl, sym, ap, ◌∙◌, subst}
+use mathlib.Core.Path.{◌≡◌, refl, sym, ap, ◌∙◌}
 use Prim.Native.Nat.{ℕ, zero, suc, ◌+◌, ◌-◌, ◌≤◌, ◌<◌, min}
 use native.Mathlib.Omega.{arith}
 use native.Mathlib.Numerals.{add-one}
 use native.Mathlib.Decide.{dec_le}
-use mathlib.Core.Bool.{Bool, true, false}
+use mathlib.Core.Bool.{Bool, true, false, not}
 use mathlib.Core.List.{List, [], ◌∷◌, ◌++◌, append_assoc, append-nil}
 use lib.ListN.{length, get_or, set, take, drop, length-append, length-drop, take-append-drop, drop_of_length-le, replicate, replicate-append-replicate, length-replicate}
-use lib.Seq.{take-append-le, drop-append-le, drop-drop, take-suc-set, drop-set-lt, drop-cons, append_snoc, length-take-le, take_all, take_at, set_split, get_or-take}
+use lib.Seq.{paste, take-append-le, drop-append-le, drop-drop, length-take-le, take_all, take_at, get_or-take}
 use lib.Bits.{bit_or}
-use borrow.Author.Tests.{eqb-true}
-use Rattle.octets.specs.Words.{◌and◌, every, ◌<?◌, ◌=?◌}
-use Rattle.octets.proofs.Tests.{and_left, and_right, and_both}
+use borrow.Author.Tests.{eqb-true, le-leb, le-ltb, lt-leb, lt-ltb}
+use Rattle.std.specs.List.{fold, prefix_len}
+use Rattle.std.proofs.lemmas.List.Folds.{length-prefix_len}
+use Rattle.std.proofs.lemmas.List.Sums.{prefix_len-le-length}
+use Rattle.octets.specs.Words.{◌and◌, every, ◌<?◌, ◌≤?◌, ◌=?◌}
+use Rattle.octets.proofs.Tests.{and_left, and_right, and_both, and-true, no_true, no_false}
 use Rattle.octets.proofs.Lists.{drop-next}
 use Rattle.lengths.proofs.Zeros.{or-zero}
 use Rattle.places.specs.declared.Held.{Held}
 use Rattle.places.specs.Messages.{insert}
-use Rattle.places.specs.Places.{blank, is_blank, places, place_for}
+use Rattle.places.specs.Places.{blank, is_blank, with_fields, places, place_for}
 
--- ---- a turn of a loop
+-- ---- places in order
 
 -- the messages from i on, of the first n: the one at i, then the rest
 pub rest_at : (l : List Held) (i n : ℕ) → i < n → n ≤ length l → drop i (take n l) ≡ get_or l i blank ∷ drop (i + 1) (take n l)
 rest_at l i n h k =
     drop-next (take n l) i blank (rw (length-take-le n l k) h) ∙ ap (λ (m : Held). m ∷ drop (i + 1) (take n l)) (get_or-take n l i blank h)
 
--- the first n of sixteen, n cut to sixteen
-pub cut : (l : List Held) (n k : ℕ) → length l ≡ 16 → k ≡ min n 16 → take n l ≡ take k l
-cut l n k e q = go (dec_le n 16)
-  where
-    go : Dec (n ≤ 16) → take n l ≡ take k l
-    go (yes h) = ap (λ (j : ℕ). take j l) (let p : n ≡ k = omega arith in p)
-    go (no h) = take_all n l (omega arith) ∙ sym (take_all k l (omega arith))
-
 pub rest_end : (l : List Held) (i n : ℕ) → n ≤ i → n ≤ length l → drop i (take n l) ≡ []
 rest_end l i n h k = drop_of_length-le (take n l) {i = i} (rw (length-take-le n l k) h)
 
+-- the places from n on, n cut to sixteen
+pub past : (l : List Held) (n k : ℕ) → length l ≡ 16 → k ≡ min n 16 → take (16 - k) (drop k l) ≡ drop n l
+past l n k e q = take_all (16 - k) (drop k l) (rw (length-drop k l) (omega arith)) ∙ go (dec_le n 16)
+  where
+    go : Dec (n ≤ 16) → drop k l ≡ drop n l
+    go (yes h) = ap (λ (j : ℕ). drop j l) (let p : k ≡ n = omega arith in p)
+    go (no h) = drop_of_length-le l {i = k} (omega arith) ∙ sym (drop_of_length-le l {i = n} (omega arith))
+
 module _ {A : Type 0} where
-  -- a loop that moves each element one place down
-  pub down_turn : (l : List A) (i : ℕ) (d : A) → i + 1 < length l
-      → take (i + 1) (set l i (get_or l (i + 1) d)) ++ drop (i + 1 + 1) (set l i (get_or l (i + 1) d)) ≡ take i l ++ drop (i + 1) l
-  down_turn l i d h =
-      let x : A = get_or l (i + 1) d in
-      ap (λ (k : ℕ). take k (set l i x) ++ drop (i + 1 + 1) (set l i x)) (add-one i)
-      ∙ ap (λ (r : List A). r ++ drop (i + 1 + 1) (set l i x)) (take-suc-set l i x (omega arith))
-      ∙ ap (λ (r : List A). take i l ++ (x ∷ []) ++ r) (drop-set-lt (i + 1 + 1) l i x (omega arith))
-      ∙ append_snoc (take i l) x (drop (i + 1 + 1) l)
-      ∙ ap (λ (k : ℕ). take i l ++ (x ∷ drop k l)) (add-one (i + 1))
-      ∙ ap (λ (r : List A). take i l ++ r) (sym (drop-cons l (i + 1) d h))
+  -- each element from p on was copied one place up, and x stored at p
+  moved-up : (h : List A) (p k n : ℕ) (x : A) → length h ≡ n → k + p + 1 ≡ n → set (take (suc p) h ++ take k (drop p h) ++ drop n h) p x ≡ take n (take p h ++ (x ∷ drop p h))
+  moved-up [] p k n x e q = absurd (omega arith)
+  moved-up (y ∷ t) p k zero x e q = absurd (omega arith)
+  moved-up (y ∷ t) zero k (suc m) x e q =
+      let z : drop m t ≡ [] = drop_of_length-le t {i = m} (omega arith) in
+      let i : k ≡ m = omega arith in
+      rw (z, append-nil (take k (y ∷ t)), i) refl
+  moved-up (y ∷ t) (suc p) k (suc m) x e q = ap (λ (r : List A). y ∷ r) (moved-up t p k m x (omega arith) (omega arith))
 
-  -- a loop that carries an element past another: what was carried is stored, and what stood there is carried
-  pub carry-turn : (l : List A) (i : ℕ) (x d : A) → i < length l
-      → take (i + 1) (set l i x) ++ (get_or l i d ∷ drop (i + 1) (set l i x)) ≡ take i l ++ (x ∷ drop i l)
-  carry-turn l i x d h =
-      ap (λ (k : ℕ). take k (set l i x) ++ (get_or l i d ∷ drop (i + 1) (set l i x))) (add-one i)
-      ∙ ap (λ (r : List A). r ++ (get_or l i d ∷ drop (i + 1) (set l i x))) (take-suc-set l i x h)
-      ∙ ap (λ (r : List A). take i l ++ (x ∷ []) ++ (get_or l i d ∷ r)) (drop-set-lt (i + 1) l i x (omega arith) ∙ ap (λ (k : ℕ). drop k l) (add-one i))
-      ∙ append_snoc (take i l) x (get_or l i d ∷ drop (suc i) l)
-      ∙ ap (λ (r : List A). take i l ++ (x ∷ r)) (sym (drop-cons l i d h))
+  pub one-more : (h : List A) (p : ℕ) (x : A) → length h ≡ 16 → p < 16 → set (paste h (p + 1) (drop p h) (15 - p)) p x ≡ take 16 (take p h ++ (x ∷ drop p h))
+  one-more h p x e q =
+      ap (λ (j : ℕ). set (take j h ++ take (15 - p) (drop p h) ++ drop (p + 1 + (15 - p)) h) p x) (add-one p)
+      ∙ ap (λ (j : ℕ). set (take (suc p) h ++ take (15 - p) (drop p h) ++ drop j h) p x) (let i : p + 1 + (15 - p) ≡ 16 = omega arith in i)
+      ∙ moved-up h p (15 - p) 16 x e (omega arith)
 
--- at the end of the loop that moves down
-pub down-end : (h h₀ : List Held) (b : Held) (i : ℕ) → length h ≡ 16 → i ≤ 15 → 15 ≤ i → b ≡ blank → take i h ++ drop (i + 1) h ≡ drop 1 h₀ → set h 15 b ≡ drop 1 h₀ ++ (blank ∷ [])
-down-end h h₀ x i e a b y p =
-    let q : i ≡ 15 = omega arith in
-    let p' : take 15 h ++ drop 16 h ≡ drop 1 h₀ = subst (λ (k : ℕ). take k h ++ drop (k + 1) h ≡ drop 1 h₀) q p in
-    let n : drop 16 h ≡ [] = drop_of_length-le h {i = 16} (omega arith) in
-    let t : take 15 h ≡ drop 1 h₀ = sym (append-nil (take 15 h)) ∙ ap (λ (r : List Held). take 15 h ++ r) (sym n) ∙ p' in
-    rw y (set_split h 15 blank (omega arith) ∙ ap (λ (r : List Held). take 15 h ++ (blank ∷ r)) n ∙ ap (λ (r : List Held). r ++ (blank ∷ [])) t)
+  -- each element but the first was copied one place down, and x stored in the last place
+  moved-down : (t d : List A) (x : A) → length d ≡ 1 → set (t ++ d) (length t) x ≡ t ++ (x ∷ [])
+  moved-down [] [] x e = absurd (omega arith)
+  moved-down [] (y ∷ []) x e = refl
+  moved-down [] (y ∷ z ∷ d) x e = absurd (omega arith)
+  moved-down (y ∷ t) d x e = ap (λ (r : List A). y ∷ r) (moved-down t d x e)
 
--- at the end of the loop that carries
-pub carry-end : (h w : List Held) (x : Held) (i : ℕ) → length h ≡ 16 → 16 ≤ i → take i h ++ (x ∷ drop i h) ≡ w → h ≡ take 16 w
-carry-end h w x i e b p =
-    sym (take_at h (x ∷ drop i h) 16 e) ∙ ap (λ (l : List Held). take 16 (l ++ (x ∷ drop i h))) (sym (take_all i h (omega arith))) ∙ ap (take 16) p
+  pub one-less : (h : List A) (x : A) → length h ≡ 16 → set (paste h 0 (drop 1 h) 15) 15 x ≡ drop 1 h ++ (x ∷ [])
+  one-less [] x e = absurd (omega arith)
+  one-less (y ∷ t) x e =
+      let l : 15 ≡ length t = omega arith in
+      rw (take_all 15 t (omega arith)) (ap (λ (n : ℕ). set (t ++ drop 14 t) n x) l ∙ moved-down t (drop 14 t) x (rw (length-drop 14 t) (omega arith)))
 
 -- the lowest of the held messages, where there is one
 pub lowest-of : (l : List Held) (n : ℕ) → 0 < n → 0 < length l → take n l ≡ get_or l 0 blank ∷ take (n - 1) (drop 1 l)
@@ -81,10 +77,6 @@ lowest-of [] (suc n) h k = absurd (omega arith)
 lowest-of (x ∷ xs) (suc n) h k = ap (λ (j : ℕ). x ∷ take j xs) (let e : n ≡ suc n - 1 = omega arith in e)
 
 -- ---- empty places
-
--- past its end a list has nothing to fail a test
-pub every-past : {A : Type 0} (p : A → Bool) (l : List A) (i : ℕ) → length l ≤ i → every p (drop i l) ≡ true
-every-past p l i h = ap (every p) (drop_of_length-le l {i = i} h)
 
 is-blank : (m : Held) → is_blank m ≡ true → m ≡ blank
 is-blank m e =
@@ -103,39 +95,19 @@ pub all-blank : (n : ℕ) → every is_blank (replicate n blank) ≡ true
 all-blank zero = refl
 all-blank (suc n) = all-blank n
 
--- one place more is gathered, each of its fields by itself
-pub blank-next : (a b c : ℕ) (l : List Held) (i : ℕ) → i < length l
-    → (bit_or (bit_or a b) c =? 0) and every is_blank (drop i l)
-    ≡ (bit_or (bit_or (bit_or a (get_or l i blank).number) (bit_or b (get_or l i blank).timeout)) (bit_or c (get_or l i blank).slip) =? 0) and every is_blank (drop (i + 1) l)
-blank-next a b c l i h =
-    let m = get_or l i blank in
-    rw (drop-next l i blank h, or-zero (bit_or (bit_or a m.number) (bit_or b m.timeout)) (bit_or c m.slip), or-zero (bit_or a m.number) (bit_or b m.timeout), or-zero a m.number, or-zero b m.timeout, or-zero c m.slip, or-zero (bit_or a b) c, or-zero a b)
-    (regroup (a =? 0) (b =? 0) (c =? 0) (m.number =? 0) (m.timeout =? 0) (m.slip =? 0) (every is_blank (drop (i + 1) l)))
+-- what is gathered from empty places is 0, and from no others
+pub bare-gathered : (g : ℕ) (l : List Held) → (fold with_fields g l =? 0) ≡ (g =? 0) and every is_blank l
+bare-gathered g [] = sym (and-true (g =? 0))
+bare-gathered g (m ∷ l) =
+    bare-gathered (with_fields g m) l
+    ∙ rw (or-zero (bit_or (bit_or g m.number) m.timeout) m.slip, or-zero (bit_or g m.number) m.timeout, or-zero g m.number)
+    (regroup (g =? 0) (m.number =? 0) (m.timeout =? 0) (m.slip =? 0) (every is_blank l))
   where
-    regroup : (a b c x y z e : Bool) → ((a and b) and c) and ((x and y and z) and e) ≡ (((a and x) and (b and y)) and (c and z)) and e
-    regroup false b c x y z e = refl
-    regroup true b c false y z e = all-no b c
-      where
-        all-no : (b c : Bool) → (b and c) and false ≡ false
-        all-no false c = refl
-        all-no true false = refl
-        all-no true true = refl
-    regroup true false c true y z e = refl
-    regroup true true false true y z e = go y
-      where
-        go : (y : Bool) → false ≡ (y and false) and e
-        go false = refl
-        go true = refl
-    regroup true true true true false z e = refl
-    regroup true true true true true false e = refl
-    regroup true true true true true true e = refl
-
-pub blank-end : (g : ℕ) (l : List Held) (i : ℕ) → length l ≤ i → (g =? 0) and every is_blank (drop i l) ≡ (g =? 0)
-blank-end g l i h = rw (every-past is_blank l i h) (go (g =? 0))
-  where
-    go : (b : Bool) → b and true ≡ b
-    go true = refl
-    go false = refl
+    regroup : (g x y z e : Bool) → (((g and x) and y) and z) and e ≡ g and ((x and y and z) and e)
+    regroup false x y z e = refl
+    regroup true false y z e = refl
+    regroup true true false z e = refl
+    regroup true true true z e = refl
 
 blank-more : (l : List Held) → every is_blank l ≡ true → every is_blank (l ++ (blank ∷ [])) ≡ true
 blank-more [] e = refl
@@ -181,24 +153,34 @@ module _ (n : ℕ) (l : List Held) (z : 0 < n) (w : Placed n l) where
 
 -- with one more
 pub place-le : (n : ℕ) (l : List Held) → place_for n l ≤ length l
-place-le n [] = omega arith
-place-le n (m ∷ l) = go (n <? m.number) (place-le n l)
+place-le n l = rw (length-prefix_len (λ m. m.number ≤? n) l) (prefix_len-le-length (λ m. m.number ≤? n) l)
+
+le-or-lt : (a b : ℕ) → (a ≤? b) ≡ not (b <? a)
+le-or-lt a b = go (dec_le a b)
   where
-    go : (b : Bool) → place_for n l ≤ length l → (if b then 0 else (1 + place_for n l)) ≤ suc (length l)
-    go true ih = omega arith
-    go false ih = omega arith
+    go : Dec (a ≤ b) → (a ≤? b) ≡ not (b <? a)
+    go (yes h) = le-leb a b h ∙ sym (no_false _ (le-ltb b a h))
+    go (no h) = lt-leb a b (omega arith) ∙ sym (no_true _ (lt-ltb b a (omega arith)))
+
+abbrev not-above : ℕ → Held → Bool
+not-above n m = m.number ≤? n
+
+insert-at : (x : Held) (l : List Held) → insert x l ≡ take (prefix_len (not-above x.number) l) l ++ (x ∷ drop (prefix_len (not-above x.number) l) l)
+insert-at x [] = refl
+insert-at x (m ∷ l) = rw (le-or-lt m.number x.number) (turn (x.number <? m.number) (insert-at x l))
+  where
+    p : ℕ
+    p = prefix_len (not-above x.number) l
+
+    at : ℕ → List Held
+    at k = take k (m ∷ l) ++ (x ∷ drop k (m ∷ l))
+
+    turn : (b : Bool) → insert x l ≡ take p l ++ (x ∷ drop p l) → (if b then x ∷ m ∷ l else (m ∷ insert x l)) ≡ at (if not b then (1 + p) else 0)
+    turn true ih = refl
+    turn false ih = ap (λ (r : List Held). m ∷ r) ih ∙ ap at (let e : suc p ≡ 1 + p = omega arith in e)
 
 insert-is : (x : Held) (l : List Held) → insert x l ≡ take (place_for x.number l) l ++ (x ∷ drop (place_for x.number l) l)
-insert-is x [] = refl
-insert-is x (m ∷ l) = go (x.number <? m.number) (insert-is x l)
-  where
-    at : ℕ → List Held
-    at p = take p (m ∷ l) ++ (x ∷ drop p (m ∷ l))
-
-    go : (b : Bool) → insert x l ≡ take (place_for x.number l) l ++ (x ∷ drop (place_for x.number l) l)
-        → (if b then x ∷ m ∷ l else (m ∷ insert x l)) ≡ at (if b then 0 else (1 + place_for x.number l))
-    go true ih = refl
-    go false ih = ap (λ (r : List Held). m ∷ r) ih ∙ ap at (let e : suc (place_for x.number l) ≡ 1 + place_for x.number l = omega arith in e)
+insert-is x l = insert-at x l ∙ ap (λ (k : ℕ). take k l ++ (x ∷ drop k l)) (sym (length-prefix_len (not-above x.number) l))
 
 pub length-insert : (x : Held) (l : List Held) → length (insert x l) ≡ length l + 1
 length-insert x l =

@@ -28,8 +28,8 @@ ascends-one κs a x y v w p q = (p ∙ sym q, refl)
 pub ascends-free : Free 0 ascends-kinds.ps ascends-reads.Pre
 ascends-free κs a = tt
 
-pub has_one : One 0 has-kinds.ps has-kinds.r has-reads.Post
-has_one κs a x y v w p q = (p ∙ sym q, refl)
+pub has-one : One 0 has-kinds.ps has-kinds.r has-reads.Post
+has-one κs a x y v w p q = (p ∙ sym q, refl)
 
 pub has-free : Free 0 has-kinds.ps has-reads.Pre
 has-free κs a = tt

@@ -1,19 +1,18 @@
 -- Parts that are written one behind the other stand together as one.
-use Prim.Native.Nat.{ℕ, ◌+◌, ◌-◌, ◌*◌, ◌<◌, ◌≤◌}
+use Prim.Native.Nat.{ℕ, ◌+◌, ◌*◌, ◌<◌, ◌≤◌}
 use native.Mathlib.Omega.{arith}
 use mathlib.Core.Path.{◌≡◌, sym, ap, ◌∙◌}
 use mathlib.Core.List.{List, ◌++◌, append_assoc}
-use lib.ListN.{length, take, drop, get_or, length-append, length-drop}
+use lib.ListN.{length, take, drop, get_or, length-append, length-drop, drop_of_length-le}
 use lib.Seq.{length-take-le, take_at, drop-append-add, drop-drop}
 use Rattle.octets.specs.Bytes.{placed}
 use Rattle.octets.specs.Numbers.{little_bytes}
 use Rattle.octets.specs.Field.{many_print}
-use Rattle.octets.proofs.Lists.{length-placed, placed-in, placed-none}
+use Rattle.octets.proofs.Lists.{drop-next, length-placed, placed-in, placed-none}
 use Rattle.octets.proofs.NumberLaws.{length-bytes}
 use Rattle.places.specs.declared.Held.{Held}
 use Rattle.rows.specs.declared.Row.{Row}
 use Rattle.rows.specs.Row.{blank, held_in}
-use Rattle.places.proofs.Packing.{rest_at, rest_end}
 use Rattle.keys.specs.declared.Key.{Key}
 use Rattle.keys.specs.Key.{originator_of, stream_id_of}
 use Rattle.records.specs.Record.{text, key, message, messages, row, body}
@@ -56,7 +55,7 @@ text-placed s v at l x y e p q h =
     behind (little_bytes 1 (length s)) s at (at + 1) l x y (p ∙ ap (λ (k : ℕ). placed (little_bytes 1 k) at l) e) q (omega arith) (omega arith)
 
 pub key-placed : (k : Key) (a b : List ℕ) (n at : ℕ) (l x y : List ℕ) → a ≡ originator_of k → b ≡ stream_id_of k → n ≡ length a → x ≡ placed (text.print a) at l
-    → y ≡ placed (text.print b) (at + (1 + n)) x → at + length (key.print k) ≤ length l → y ≡ placed (key.print k) at l
+    → y ≡ placed (text.print b) (at + 1 + n) x → at + length (key.print k) ≤ length l → y ≡ placed (key.print k) at l
 unfolding key
 key-placed k a b n at l x y ea eb en p q h =
     let o = originator_of k in
@@ -64,12 +63,12 @@ key-placed k a b n at l x y ea eb en p q h =
     let z : n ≡ length o = en ∙ ap length ea in
     let s = text-size o in
     let t = length-append (text.print o) (text.print i) in
-    behind (text.print o) (text.print i) at (at + (1 + n)) l x y (p ∙ ap (λ (r : List ℕ). placed (text.print r) at l) ea) (q ∙ ap (λ (r : List ℕ). placed (text.print r) (at + (1 + n)) x) eb)
+    behind (text.print o) (text.print i) at (at + 1 + n) l x y (p ∙ ap (λ (r : List ℕ). placed (text.print r) at l) ea) (q ∙ ap (λ (r : List ℕ). placed (text.print r) (at + 1 + n) x) eb)
     (omega arith) (omega arith)
 
 -- the room that the two names want
 pub key_fits : (k : Key) (a b : List ℕ) (at : ℕ) (l x : List ℕ) → a ≡ originator_of k → b ≡ stream_id_of k → at + length (key.print k) ≤ length l → length x ≡ length l
-    → (at + (1 + length a) ≤ length l) × (at + (1 + length a) + (1 + length b) ≤ length x)
+    → (at + (1 + length a) ≤ length l) × (at + 1 + length a + (1 + length b) ≤ length x)
 key_fits k a b at l x ea eb h n =
     let s : length (key.print k) ≡ 2 + length a + length b = key-size k ∙ rw (ea, eb) in
     (omega arith, omega arith)
@@ -91,34 +90,29 @@ message-placed m a b c at l x y z ea eb ec p q r h =
     behind (little_bytes 4 m.number) (little_bytes 4 m.timeout ++ little_bytes 4 m.slip) at (at + 4) l x z (p ∙ ap (λ (k : ℕ). placed (little_bytes 4 k) at l) ea) r2 (omega arith) (omega arith)
 
 -- a loop that writes messages: those that are left stand behind those that were written
-abbrev pub left : List Held → ℕ → ℕ → List ℕ
-left held k i = many_print message (drop i (take k held))
+module _ (held : List Held) (at : ℕ) where
+  pub left-room : (l : List ℕ) → at + length (many_print message held) ≤ length l → at + 12 * length held ≤ length l
+  left-room l h = omega (arith, many-size held)
 
-module _ (held : List Held) (k at : ℕ) (n : length held ≡ 16) (m : k ≤ 16) where
-  left-size : (i : ℕ) → length (left held k i) ≡ 12 * (k - i)
-  left-size i = many-size (drop i (take k held)) ∙ ap (λ (j : ℕ). 12 * j) (length-drop i (take k held) ∙ ap (λ (j : ℕ). j - i) (length-take-le k held (omega arith)))
-
-  -- what the messages want
-  pub left-room : (l : List ℕ) → at + length (many_print message (take k held)) ≤ length l → at + 12 * k ≤ length l
-  left-room l h = let z : length (many_print message (take k held)) ≡ 12 * (k - 0) = left-size 0 in omega arith
-
-  pub left-turn : (i : ℕ) (out x l : List ℕ) → i < k → at + 12 * k ≤ length out → x ≡ placed (message.print (get_or held i blank)) (at + 12 * i) out → placed (left held k i) (at + 12 * i) out ≡ l
-      → placed (left held k (i + 1)) (at + 12 * (i + 1)) x ≡ l
-  left-turn i out x l h room p g =
-      let w = message.print (get_or held i blank) in
-      let s = message-size (get_or held i blank) in
-      let t = left-size (i + 1) in
+  pub left-turn : (i : ℕ) (m : Held) (out x l : List ℕ) → i < length held → m ≡ get_or held i blank → at + 12 * length held ≤ length out → x ≡ placed (message.print m) (at + 12 * i) out
+      → placed (many_print message (drop i held)) (at + 12 * i) out ≡ l → placed (many_print message (drop (i + 1) held)) (at + 12 * (i + 1)) x ≡ l
+  left-turn i m out x l h em room p g =
+      let w = message.print m in
+      let v = many_print message (drop (i + 1) held) in
+      let s = message-size m in
+      let t = many-size (drop (i + 1) held) in
+      let u = length-drop (i + 1) held in
       let z : at + 12 * (i + 1) ≡ at + 12 * i + length w = omega arith in
-      let e : left held k i ≡ w ++ left held k (i + 1) = ap (many_print message) (rest_at held i k h (omega arith)) in
-      ap (λ (j : ℕ). placed (left held k (i + 1)) j x) z
-      ∙ ap (placed (left held k (i + 1)) (at + 12 * i + length w)) p
-      ∙ placed-then w (left held k (i + 1)) (at + 12 * i) out (omega arith)
+      let e : many_print message (drop i held) ≡ w ++ v = ap (many_print message) (drop-next held i blank h) ∙ ap (λ (n : Held). message.print n ++ v) (sym em) in
+      ap (λ (j : ℕ). placed v j x) z
+      ∙ ap (placed v (at + 12 * i + length w)) p
+      ∙ placed-then w v (at + 12 * i) out (omega arith)
       ∙ ap (λ (r : List ℕ). placed r (at + 12 * i) out) (sym e)
       ∙ g
 
-  pub left_end : (i : ℕ) (out l : List ℕ) → k ≤ i → at + 12 * i ≤ length out → placed (left held k i) (at + 12 * i) out ≡ l → out ≡ l
+  pub left_end : (i : ℕ) (out l : List ℕ) → length held ≤ i → at + 12 * i ≤ length out → placed (many_print message (drop i held)) (at + 12 * i) out ≡ l → out ≡ l
   left_end i out l h room g =
-      sym (placed-none (at + 12 * i) out room) ∙ ap (λ (r : List Held). placed (many_print message r) (at + 12 * i) out) (sym (rest_end held i k h (omega arith))) ∙ g
+      sym (placed-none (at + 12 * i) out room) ∙ ap (λ (r : List Held). placed (many_print message r) (at + 12 * i) out) (sym (drop_of_length-le held {i = i} h)) ∙ g
 
 -- ---- the row
 
@@ -149,11 +143,8 @@ row-placed r c g n at h l v w x y z ec eg en eh p1 p2 p3 p4 p5 room =
     behind b1 (b2 ++ (b3 ++ (b4 ++ b5))) at (at + 8) l v z p1 q2 (omega arith) (omega arith)
 
 -- the room that the messages want behind the numbers
-pub row_fits : (r : Row) (n at : ℕ) (l : List ℕ) → held_in r ≡ take n r.held → at + length (row.print r) ≤ length l → at + 17 + length (many_print message (take n r.held)) ≤ length l
-row_fits r n at l e h =
-    let s = row-size r in
-    let t : length (many_print message (take n r.held)) ≡ 12 * length (held_in r) = rw (← e) (many-size (held_in r)) in
-    omega arith
+pub row_fits : (r : Row) (h : List Held) (at : ℕ) (l : List ℕ) → h ≡ held_in r → at + length (row.print r) ≤ length l → at + 17 + length (many_print message h) ≤ length l
+row_fits r h at l e k = omega (arith, row-size r, many-size h, ap length e)
 
 -- ---- the record
 

@@ -17,16 +17,12 @@ pub fn size(key: Key, row: Row) -> usize
     placing::key_size(key) + placing::row_size(row)
 }
 
-// Writes the record at the place `at` of a lent buffer, if it fits.
+// Writes the record at the place `at` of a lent buffer, if it fits. A record is never empty, so that a place past the buffer has no room for it.
 pub fn write(key: Key, row: Row, out: &mut [u8], at: usize) -> bool
     ensures { (result ≡ fits (body.print (key, row)) at out.old) × (out.new ≡ placed (body.print (key, row)) at out.old) }
 {
-    if out.len() < at {
-        return false;
-    }
     let n = placing::key_size(key);
-    let m = placing::row_size(row);
-    if out.len() - at < n + m {
+    if out.len().saturating_sub(at) < n + placing::row_size(row) {
         return false;
     }
     placing::put_key(key, out, at);

@@ -1,3 +1,2 @@
 -- Document 01, "The saved table": one row's record.
 pub mod Record
-pub mod Steps

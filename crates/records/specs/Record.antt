@@ -1,16 +1,15 @@
 -- Document 01, "The saved table": what the image has of one open row behind its mark and number, each part a field, in the paper's order.
-use Rattle.std.specs.Prelude.{ℕ, true, false, List, length}
+use Rattle.std.specs.Prelude.{ℕ, true, List, length}
 use Rattle.octets.specs.Words.{◌and◌, ◌≤?◌}
-use Rattle.octets.specs.Field.{Res, bad, got, Field, num, raw, only, seq, tagged, through, many}
+use Rattle.octets.specs.Field.{Field, num, raw, only, seq, tagged, through, many}
 use Rattle.callsigns.specs.Callsign.{callsign}
 use Rattle.names.specs.Texts.{stream_id}
 use Rattle.keys.specs.declared.Key.{Key}
-use Rattle.keys.specs.Key.{originator_of, stream_id_of, key_of, keeps_key, no_key}
+use Rattle.keys.specs.Key.{originator_of, stream_id_of, key_of, keeps_key}
 use Rattle.places.specs.declared.Held.{Held}
 use Rattle.rows.specs.declared.Row.{Row}
 use Rattle.rows.specs.Stream.{Stream, keeps}
-use Rattle.rows.specs.Row.{stream_of, row_of, keeps_row, no_row}
-use Rattle.records.specs.declared.Reading.{Reading}
+use Rattle.rows.specs.Row.{stream_of, row_of, keeps_row}
 
 -- ---- originator length and bytes, stream id length and bytes
 
@@ -53,8 +52,3 @@ row = through row_of stream_of keeps_row (only keeps stream)
 -- THE RECORD of an open row: its key, then the row
 unfoldable pub body : Field (Key × Row)
 body = seq key (λ k. row)
-
--- ---- what the reader answers: key and row are all zero where the bytes are no record
-abbrev pub reading_of : Res (Key × Row) → Reading
-reading_of bad = record { good = false; used = 0; key = no_key; row = no_row }
-reading_of (got x n) = record { good = true; used = n; key = x.0; row = x.1 }

@@ -2,41 +2,19 @@
 #![tactic(auto)]
 
 ghost use Rattle.std.specs.Prelude.{◌≡◌};
-ghost use Rattle.records.specs.Record.{body, reading_of};
+ghost use Rattle.octets.specs.Reading.{read_as};
+ghost use Rattle.records.specs.Record.{body};
 
 mod parts;
 
 use keys::Key;
 use rows::Row;
 
-// Where the bytes are a record: the bytes used, the key and the row. Where they are not: all zero.
-#[derive(Clone, Copy)]
-pub struct Reading {
-    pub good: bool,
-    pub used: usize,
-    pub key: Key,
-    pub row: Row,
-}
-
-// Reads a record from the front of a part, behind its mark and number.
-pub fn read(d: &[u8]) -> Reading
-    ensures { result ≡ reading_of (body.parse d.now) }
+// Reads a record from the front of a part, behind its mark and number: the key and the row, with the bytes used.
+pub fn read(d: &[u8]) -> Option<((Key, Row), usize)>
+    ensures { result ≡ read_as (λ x. x) (body.parse d.now) }
 {
-    let a = parts::read_key(d);
-    if !a.good {
-        return parts::no_record();
-    }
-    let n = a.used;
-    let b = parts::read_row(&d[n..]);
-    if !b.good {
-        return parts::no_record();
-    }
-    let key = a.key;
-    let row = b.row;
-    Reading {
-        good: true,
-        used: n + b.used,
-        key: key,
-        row: row,
-    }
+    let (key, n) = parts::read_key(d)?;
+    let (row, m) = parts::read_row(&d[n..])?;
+    Some(((key, row), n + m))
 }

@@ -1,53 +1,95 @@
-// Document 01, "Numbers the node says no with": the table, a name for each number.
+// The numbers that the node says no with: a name for each number of the table.
 #![tactic(auto)]
 
-// Line malformed.
-pub const LINE_MALFORMED: u8 = 1;
-// `chk` differs.
-pub const CHK_DIFFERS: u8 = 2;
-// `fmt=d`.
-pub const FORMAT_D: u8 = 3;
-// Payload length above 4,096 (line, datagram, id).
-pub const PAYLOAD_TOO_LONG: u8 = 4;
+ghost use Rattle.std.specs.Prelude.{◌≡◌};
+ghost use Rattle.refusals.specs.Refusals.{number_of};
+
 // No payload is longer.
 pub const LONGEST_PAYLOAD: usize = 4096;
-// Lent buffer too short for the whole answer.
-pub const BUFFER_TOO_SHORT: u8 = 5;
-// Datagram empty or first byte not 7.
-pub const NOT_VERSION_7: u8 = 6;
-// Datagram malformed.
-pub const DATAGRAM_MALFORMED: u8 = 7;
-// Originator is no callsign.
-pub const NO_CALLSIGN: u8 = 8;
-// Stream id malformed.
-pub const STREAM_ID_MALFORMED: u8 = 9;
-// Stale number.
-pub const STALE: u8 = 10;
-// Number already held.
-pub const ALREADY_HELD: u8 = 11;
-// Row full.
-pub const ROW_FULL: u8 = 12;
-// Offer on an unknown key, no free row.
-pub const NO_FREE_ROW: u8 = 13;
-// No such stream.
-pub const NO_SUCH_STREAM: u8 = 14;
-// Close while something is held.
-pub const STILL_HOLDING: u8 = 15;
-// Image not one that a save writes.
-pub const NO_SAVED_IMAGE: u8 = 16;
-// Fragment: master id malformed, or N, M or length outside its range.
-pub const FRAGMENT_MALFORMED: u8 = 17;
-// M differs from the group's.
-pub const OTHER_TOTAL: u8 = 18;
-// Fragment already held.
-pub const FRAGMENT_HELD: u8 = 19;
-// No free group.
-pub const NO_FREE_GROUP: u8 = 20;
-// Group unknown or incomplete.
-pub const NOT_COMPLETE: u8 = 21;
-// Session closed.
-pub const SESSION_CLOSED: u8 = 22;
-// Fragment store not 65,536 bytes.
-pub const STORE_LENGTH: u8 = 23;
-// State of any kind handed in breaks its section's rules.
-pub const STATE_BROKEN: u8 = 40;
+
+// Why a call was refused.
+#[derive(Clone, Copy)]
+pub enum Refusal {
+    // Line malformed.
+    LineMalformed,
+    // `chk` differs.
+    ChkDiffers,
+    // `fmt=d`.
+    FormatD,
+    // Payload length above 4,096 (line, datagram, id).
+    PayloadTooLong,
+    // Lent buffer too short for the whole answer.
+    BufferTooShort,
+    // Datagram empty or first byte not 7.
+    NotVersion7,
+    // Datagram malformed.
+    DatagramMalformed,
+    // Originator is no callsign.
+    NoCallsign,
+    // Stream id malformed.
+    StreamIdMalformed,
+    // Stale number.
+    Stale,
+    // Number already held.
+    AlreadyHeld,
+    // Row full.
+    RowFull,
+    // Offer on an unknown key, no free row.
+    NoFreeRow,
+    // No such stream.
+    NoSuchStream,
+    // Close while something is held.
+    StillHolding,
+    // Image not one that a save writes.
+    NoSavedImage,
+    // Fragment: master id malformed, or N, M or length outside its range.
+    FragmentMalformed,
+    // M differs from the group's.
+    OtherTotal,
+    // Fragment already held.
+    FragmentHeld,
+    // No free group.
+    NoFreeGroup,
+    // Group unknown or incomplete.
+    NotComplete,
+    // Session closed.
+    SessionClosed,
+    // Fragment store not 65,536 bytes.
+    StoreLength,
+    // State of any kind handed in breaks its section's rules.
+    StateBroken,
+}
+
+impl Refusal {
+    // Its number in the table.
+    pub fn number(self) -> u8
+        ensures { result ≡ number_of self }
+    {
+        match self {
+            Refusal::LineMalformed => 1,
+            Refusal::ChkDiffers => 2,
+            Refusal::FormatD => 3,
+            Refusal::PayloadTooLong => 4,
+            Refusal::BufferTooShort => 5,
+            Refusal::NotVersion7 => 6,
+            Refusal::DatagramMalformed => 7,
+            Refusal::NoCallsign => 8,
+            Refusal::StreamIdMalformed => 9,
+            Refusal::Stale => 10,
+            Refusal::AlreadyHeld => 11,
+            Refusal::RowFull => 12,
+            Refusal::NoFreeRow => 13,
+            Refusal::NoSuchStream => 14,
+            Refusal::StillHolding => 15,
+            Refusal::NoSavedImage => 16,
+            Refusal::FragmentMalformed => 17,
+            Refusal::OtherTotal => 18,
+            Refusal::FragmentHeld => 19,
+            Refusal::NoFreeGroup => 20,
+            Refusal::NotComplete => 21,
+            Refusal::SessionClosed => 22,
+            Refusal::StoreLength => 23,
+            Refusal::StateBroken => 40,
+        }
+    }
+}

@@ -1,5 +1,6 @@
 // Texts at the front of a lent buffer, each as a whole or not at all.
 ghost use Rattle.std.specs.Prelude.{◌≡◌, ◌++◌, ◌≤◌};
+ghost use Rattle.octets.specs.Words.{every, between};
 ghost use Rattle.octets.specs.Bytes.{fits, placed};
 ghost use Rattle.text.specs.Hex.{hex_digits};
 ghost use Rattle.replies.specs.Replies.{error_token, token_good, errs, wrote};
@@ -108,31 +109,21 @@ pub(crate) fn token(s: &[u8]) -> &[u8]
     ensures { result.now ≡ error_token s.now }
 {
     if s.len() < 6 {
-        return &s[0..0];
+        return &[];
     }
     tokens::before_byte(&s[6..], b' ')
 }
 
 // Whether a token is said again: 1 to 7 bytes, all 0x21 to 0x7E.
-#[tactic(auto, using(crate::proofs::Tokens::good_long))]
+#[tactic(auto, unfolding(crate::specs::Replies::token_good))]
 fn is_token(t: &[u8]) -> bool
     ensures { result ≡ token_good t.now }
 {
-    if t.len() < 1 {
-        return false;
-    }
-    if 7 < t.len() {
-        return false;
-    }
-    let mut i = 0;
-    while i < t.len() {
-        if t[i] < 0x21 {
-            return false;
-        }
-        if 0x7E < t[i] {
-            return false;
-        }
-        i += 1;
-    }
-    true
+    (1..=7).contains(&t.len()) && has_token_bytes(t)
+}
+
+fn has_token_bytes(t: &[u8]) -> bool
+    ensures { result ≡ every (between 0x21 0x7E) t.now }
+{
+    t.iter().all(|x| matches!(*x, 0x21..=0x7E))
 }

@@ -1,6 +1,7 @@
 -- Every public function leaves one outcome and asks nothing.
 use mathlib.Core.Path.{refl, sym, ◌∙◌}
 use Rattle.octets.specs.Unique.{One, Free}
+use Rattle.refusals.proofs.Told.{one-test}
 use Rattle.row_numbers.proofs.keeps_numbers.Kinds as keeps-numbers-kinds
 use Rattle.row_numbers.proofs.keeps_numbers.Reads as keeps-numbers-reads
 use Rattle.row_numbers.proofs.refuses_offer.Kinds as refuses-offer-kinds
@@ -21,7 +22,7 @@ pub keeps-numbers-free : Free 0 keeps-numbers-kinds.ps keeps-numbers-reads.Pre
 keeps-numbers-free κs a = tt
 
 pub refuses-offer-one : One 0 refuses-offer-kinds.ps refuses-offer-kinds.r refuses-offer-reads.Post
-refuses-offer-one κs a x y v w p q = (p ∙ sym q, refl)
+refuses-offer-one κs a x y v w p q = (one-test x y (p ∙ sym q), refl)
 
 pub refuses-offer-free : Free 0 refuses-offer-kinds.ps refuses-offer-reads.Pre
 refuses-offer-free κs a = tt

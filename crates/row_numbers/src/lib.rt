@@ -2,7 +2,10 @@
 #![tactic(auto)]
 
 ghost use Rattle.std.specs.Prelude.{◌≡◌, ◌+◌, max};
+ghost use Rattle.refusals.specs.Refusals.{refusal_in};
 ghost use Rattle.row_numbers.specs.Numbers.{above_by, keeps_numbers, refuses_offer, start_after, due_by};
+
+use refusals::Refusal;
 
 // Whether a row's numbers are as its rules say (40), by how many messages it holds and whether the gap before them is open. The messages
 // themselves must ascend from `expected`: the places test that.
@@ -21,17 +24,11 @@ pub fn keeps_numbers(count: usize, expected: u64, clock: u32, start: u32, gap: b
     if above(count, gap) > 15 {
         return false;
     }
-    if start > clock {
-        return false;
-    }
-    if gap {
-        return true;
-    }
-    start == 0
+    start <= clock && (gap || start == 0)
 }
 
-// The number that refuses an offer, 0 where none does: by whether the row keeps its rules, whether it holds the number, how many it holds
-// and whether the gap is open.
+// What refuses an offer, if anything does: by whether the row keeps its rules, whether it holds the number, how many it holds and whether
+// the gap is open.
 pub fn refuses_offer(
     keeps: bool,
     number: u32,
@@ -39,59 +36,52 @@ pub fn refuses_offer(
     held: bool,
     count: usize,
     gap: bool,
-) -> u8
-    ensures { result ≡ refuses_offer keeps number expected held (above_by gap count) }
+) -> Result<(), Refusal>
+    ensures { refusal_in result ≡ refuses_offer keeps number expected held (above_by gap count) }
 {
     if !keeps {
-        return refusals::STATE_BROKEN;
+        return Err(Refusal::StateBroken);
     }
-    let wide = lengths::wide32(number);
-    if wide < expected {
-        return refusals::STALE;
+    if u64::from(number) < expected {
+        return Err(Refusal::Stale);
     }
     if held {
-        return refusals::ALREADY_HELD;
+        return Err(Refusal::AlreadyHeld);
     }
-    if wide <= expected {
-        return 0;
+    if u64::from(number) <= expected {
+        return Ok(());
     }
     if above(count, gap) >= 15 {
-        return refusals::ROW_FULL;
+        return Err(Refusal::RowFull);
     }
-    0
+    Ok(())
 }
 
 // How many of `count` ascending messages stand above the expected number: all while the gap is open, else all but the first.
 fn above(count: usize, gap: bool) -> usize
     ensures { result ≡ above_by gap count }
 {
-    if gap {
-        return count;
-    }
-    if count == 0 {
-        return 0;
-    }
-    count - 1
+    if gap { count } else { count.saturating_sub(1) }
 }
 
 // The larger of a row's clock and a time.
 pub fn later(clock: u32, time: u32) -> u32
     ensures { result ≡ max clock time }
 {
-    if clock < time { time } else { clock }
+    clock.max(time)
 }
 
 // The gap start after a call, by whether a gap that was open goes on (no gap goes on through a give) and whether one is open after it.
 pub fn start_after(before: bool, after: bool, kept: u32, clock: u32) -> u32
     ensures { result ≡ start_after before after kept clock }
 {
-    if after {
-        if before {
-            return kept;
-        }
-        return clock;
+    if !after {
+        return 0;
     }
-    0
+    if before {
+        return kept;
+    }
+    clock
 }
 
 // Whether something is held, and the lowest, by its number and timeout, may be given at the clock.
@@ -108,21 +98,18 @@ pub fn is_due(
     if count == 0 {
         return false;
     }
-    if lengths::wide32(number) == expected {
+    if u64::from(number) == expected {
         return true;
     }
     if timeout == 0 {
         return false;
     }
-    if clock < start {
-        return false;
-    }
-    timeout <= clock - start
+    timeout <= clock.saturating_sub(start)
 }
 
 // The number that is expected when one was given.
 pub fn next_expected(number: u32) -> u64
     ensures { result ≡ number + 1 }
 {
-    lengths::wide32(number) + 1
+    u64::from(number) + 1
 }

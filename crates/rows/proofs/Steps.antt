@@ -7,17 +7,22 @@ use mathlib.Core.Bool.{Bool, true, false}
 use mathlib.Core.List.{List, [], ◌∷◌, ◌++◌}
 use lib.ListN.{length, get_or, take, drop}
 use lib.Seq.{length-take-le}
-use borrow.Author.Tests.{lt-ltb, le-ltb, ltb-false}
+use borrow.Author.Tests.{lt-ltb, le-ltb, ltb-true, ltb-false}
 use Rattle.octets.specs.Words.{◌and◌, ◌<?◌, ◌≤?◌}
-use Rattle.octets.proofs.Tests.{if_yes, if_no, and-next, and-not-left, true-not-false}
+use Rattle.octets.proofs.Tests.{if_yes, if_no, and_left, and-next, and-not-left, true-not-false}
+use Rattle.std.specs.Prelude.{Result, Ok, Err}
+use Rattle.std.specs.Result.{is_err}
 use Rattle.refusals.specs.Numbers.{stale, already_held, row_full}
+use Rattle.refusals.specs.declared.Refusal.{Refusal}
+use Rattle.refusals.specs.Refusals.{refusal_in}
+use Rattle.refusals.proofs.Told.{not-0}
 use Rattle.row_numbers.specs.Numbers.{refuses_offer, due_by}
 use Rattle.places.specs.declared.Held.{Held}
 use Rattle.rows.specs.declared.Row.{Row}
-use Rattle.rows.specs.Answer.{Answer, given, nothing, accepted, refused, Outcome, refuse}
-use Rattle.rows.specs.Stream.{Stream, ascending, above, holds, gap_open, insert, offer, accept, stay, give, take_from, force_from}
-use Rattle.rows.specs.Row.{blank, held_in, stream_of, places, keeps_row, packed, offer_of}
-use Rattle.rows.specs.Steps.{place_for, above_by, start_after, due_from}
+use Rattle.rows.specs.Answer.{Answer, given, nothing, accepted, refused, Outcome, refuse, accepting}
+use Rattle.rows.specs.Stream.{Stream, ascending, above, holds, gap_open, insert, offer, accept, stay, give, take as takes, take_from, force, force_from}
+use Rattle.rows.specs.Row.{blank, held_in, stream_of, places, keeps_row, packed, checked, offer_of, take_of, force_of}
+use Rattle.rows.specs.Steps.{place_for, above_by, start_after, due_from, given_if}
 use Rattle.places.proofs.Packing.{Placed, counted, placed, lowest-of, rest-taken, rest-placed, rest-counted, more-placed, more-taken, length-insert}
 use Rattle.rows.proofs.Rules.{kept_row, placed-in, row_is, packs, above-count, room}
 
@@ -114,14 +119,6 @@ pub take-is : (s : Stream) (clock : ℕ) (l : List Held) → take_from s clock l
 take-is s clock [] = refl
 take-is s clock (m ∷ l) = refl
 
--- where something is due, something is held
-pub due-some : (r : Row) (clock : ℕ) → due_from (stream_of r) clock (held_in r) ≡ true → 0 < r.count
-due-some r clock e = go r.count refl
-  where
-    go : (n : ℕ) → r.count ≡ n → 0 < r.count
-    go zero q = true-not-false (due_from (stream_of r) clock (held_in r)) e (ap (λ (k : ℕ). due_from (stream_of r) clock (take k r.held)) q)
-    go (suc n) q = omega arith
-
 pub none-held : (r : Row) → r.count ≡ 0 → held_in r ≡ []
 none-held r z = ap (λ (n : ℕ). take n r.held) z
 
@@ -130,6 +127,38 @@ pub above-is : (k : ℕ) (gap : Bool) (r : Row) → length r.held ≡ 16 → r.c
     → k ≡ above_by gap r.count → k ≡ above r.expected (held_in r)
 above-is k gap r l m a g e =
     e ∙ ap (λ (b : Bool). above_by b r.count) g ∙ ap (above_by (gap_open r.expected (held_in r))) (sym (length-take-le r.count r.held (omega arith))) ∙ above-count r.expected (held_in r) a
+
+-- a take and a force, by whether the lowest may be given
+pub take-given : (r : Row) (due : Bool) (clock time : ℕ)
+    → due ≡ due_by r.count (get_or r.held 0 blank).number (get_or r.held 0 blank).timeout r.expected r.gap_start clock
+    → clock ≡ max r.clock time → given_if r due clock ≡ take_of r time
+unfolding takes
+take-given r due clock time p q = go (keeps_row r) refl
+  where
+    s : Stream
+    s = stream_of r
+
+    go : (b : Bool) → keeps_row r ≡ b → given_if r due clock ≡ take_of r time
+    go false k = if_no _ _ _ k ∙ sym (if_no _ _ _ k)
+    go true k =
+        ap (λ (b : Bool). checked r (if b then force_from s clock s.held else stay s clock)) (p ∙ due-is r k clock)
+        ∙ ap (λ (o : Outcome Stream). checked r o) (sym (take-is s clock s.held) ∙ ap (λ (n : ℕ). take_from s n s.held) q)
+
+pub force-given : (r : Row) (due : Bool) (clock time : ℕ) → due ≡ (0 <? r.count) → clock ≡ max r.clock time → given_if r due clock ≡ force_of r time
+unfolding force
+force-given r due clock time p q =
+    ap (λ (b : Bool). checked r (if b then force_from s clock s.held else stay s clock)) p
+    ∙ ap (λ (o : Outcome Stream). checked r o) (go r.count refl ∙ ap (λ (n : ℕ). force_from s n s.held) q)
+  where
+    s : Stream
+    s = stream_of r
+
+    go : (n : ℕ) → r.count ≡ n → (if 0 <? r.count then force_from s clock s.held else stay s clock) ≡ force_from s clock s.held
+    go zero e = if_no _ _ _ (le-ltb 0 r.count (omega arith)) ∙ ap (λ (l : List Held). force_from s clock l) (sym (none-held r e))
+    go (suc n) e = if_yes _ _ _ (lt-ltb 0 r.count (omega arith))
+
+pub due-held : (n : ℕ) (b : Bool) → (0 <? n and b) ≡ true → 0 < n
+due-held n b e = ltb-true 0 n (and_left (0 <? n) b e)
 
 -- ---- an offer, by the number that refuses it
 
@@ -194,3 +223,13 @@ module _ (r : Row) (m : Held) (n : ℕ) (long : length r.held ≡ 16) (keeps kno
     pub offer-accepted : (time : ℕ) → packed (accept (stream_of r) m (max r.clock time)) ≡ offer_of r m time
     offer-accepted time =
         ap packed (sym (offer-by (stream_of r) m time ∙ if_no _ _ _ (ap (λ (x : ℕ). 0 <? x) (sym (is-refuses offer-keeps) ∙ z)))) ∙ sym (if_yes _ _ _ offer-keeps)
+
+-- ---- what a test that refuses answers
+
+pub err-says : (a : Result Unit Refusal) → is_err a ≡ true → (accepting a ≡ refused (refusal_in a)) × (refusal_in a ≡ 0 → ⊥)
+err-says (Ok x) e = true-not-false false e refl
+err-says (Err why) e = (refl, not-0 why)
+
+pub ok-says : (a : Result Unit Refusal) → is_err a ≡ false → refusal_in a ≡ 0
+ok-says (Ok x) e = refl
+ok-says (Err why) e = true-not-false true refl e

@@ -1,8 +1,11 @@
 -- Every public function leaves one outcome and asks nothing.
 use mathlib.Core.Path.{◌≡◌, refl, sym, ap, ◌∙◌}
 use Rattle.octets.specs.Unique.{One, Free}
-use Rattle.rows.specs.declared.Accepting.{Accepting}
-use Rattle.rows.specs.declared.Giving.{Giving}
+use Rattle.std.specs.Prelude.{Option, Some, None, Result, Ok, Err}
+use Rattle.refusals.specs.declared.Refusal.{Refusal}
+use Rattle.refusals.specs.Refusals.{number_of}
+use Rattle.refusals.proofs.Told.{one-refusal}
+use Rattle.rows.specs.declared.Given.{Given}
 use Rattle.rows.specs.declared.Offered.{Offered}
 use Rattle.rows.specs.declared.Taken.{Taken}
 use Rattle.rows.specs.Answer.{accepting, giving, offered_says, taken_says}
@@ -22,22 +25,25 @@ use Rattle.rows.proofs.Row.force.Kinds as force-kinds
 use Rattle.rows.proofs.Row.force.Reads as force-reads
 
 -- what an answer says is said by that answer only
-pub one-accepting : (a b : Accepting) → accepting a ≡ accepting b → a ≡ b
-one-accepting Accepting.Accepted Accepting.Accepted e = refl
-one-accepting Accepting.Accepted (Accepting.Refused n) e = cc
-one-accepting (Accepting.Refused m) Accepting.Accepted e = cc
-one-accepting (Accepting.Refused m) (Accepting.Refused n) e = cc
+pub one-accepting : (a b : Result Unit Refusal) → accepting a ≡ accepting b → a ≡ b
+one-accepting (Ok x) (Ok y) e = refl
+one-accepting (Ok x) (Err n) e = cc
+one-accepting (Err m) (Ok y) e = cc
+one-accepting (Err m) (Err n) e = let p : number_of m ≡ number_of n = cc in ap (λ (r : Refusal). Err r) (one-refusal m n p)
 
-pub one-giving : (a b : Giving) → giving a ≡ giving b → a ≡ b
-one-giving (Giving.Given m s) (Giving.Given n t) e = cc
-one-giving (Giving.Given m s) Giving.Nothing e = cc
-one-giving (Giving.Given m s) (Giving.Refused n) e = cc
-one-giving Giving.Nothing (Giving.Given n t) e = cc
-one-giving Giving.Nothing Giving.Nothing e = refl
-one-giving Giving.Nothing (Giving.Refused n) e = cc
-one-giving (Giving.Refused m) (Giving.Given n t) e = cc
-one-giving (Giving.Refused m) Giving.Nothing e = cc
-one-giving (Giving.Refused m) (Giving.Refused n) e = cc
+pub one-giving : (a b : Result (Option Given) Refusal) → giving a ≡ giving b → a ≡ b
+one-giving (Ok (Some m)) (Ok (Some n)) e =
+    let p : m.number ≡ n.number = cc in
+    let q : m.slip ≡ n.slip = cc in
+    λ i. Ok (Some (record { number = p i; slip = q i }))
+one-giving (Ok (Some m)) (Ok None) e = cc
+one-giving (Ok (Some m)) (Err n) e = cc
+one-giving (Ok None) (Ok (Some n)) e = cc
+one-giving (Ok None) (Ok None) e = refl
+one-giving (Ok None) (Err n) e = cc
+one-giving (Err m) (Ok (Some n)) e = cc
+one-giving (Err m) (Ok None) e = cc
+one-giving (Err m) (Err n) e = let p : number_of m ≡ number_of n = cc in ap (λ (r : Refusal). Err r) (one-refusal m n p)
 
 one-offered : (x y : Offered) → offered_says x ≡ offered_says y → x ≡ y
 one-offered x y e = let a = one-accepting x.answer y.answer (ap (λ o. o.answer) e) in λ i. record { answer = a i; row = (e i).after }
@@ -54,8 +60,8 @@ new-free κs a = tt
 pub none-one : One 0 none-kinds.ps none-kinds.r none_reads.Post
 none-one κs a x y v w p q = (p ∙ sym q, refl)
 
-pub none_free : Free 0 none-kinds.ps none_reads.Pre
-none_free κs a = tt
+pub none-free : Free 0 none-kinds.ps none_reads.Pre
+none-free κs a = tt
 
 pub is-none-one : One 0 is-none-kinds.ps is-none-kinds.r is-none-reads.Post
 is-none-one κs a x y v w p q = (p ∙ sym q, refl)

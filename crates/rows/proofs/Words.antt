@@ -1,6 +1,6 @@
 -- A row that the code is handed has numbers of 32 bits in its places: what its type says, as the logic has it.
 use mathlib.Core.Path.{◌≡◌}
-use Prim.Native.Nat.{ℕ, ◌<◌}
+use Prim.Native.Nat.{◌<◌}
 use mathlib.Core.Bool.{true}
 use mathlib.Core.List.{List}
 use mir.Val.{Val}

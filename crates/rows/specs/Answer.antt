@@ -1,7 +1,8 @@
--- What a call on a stream answers, in document 01's words: this file gives the paper's number and values for each case of the answer enums.
-use Rattle.std.specs.Prelude.{ℕ}
-use Rattle.rows.specs.declared.Accepting.{Accepting}
-use Rattle.rows.specs.declared.Giving.{Giving}
+-- What a call on a stream answers, in document 01's words: this file gives the paper's number and values for each case of the code's answers.
+use Rattle.std.specs.Prelude.{ℕ, Option, Some, None, Result, Ok, Err}
+use Rattle.refusals.specs.declared.Refusal.{Refusal}
+use Rattle.refusals.specs.Refusals.{number_of}
+use Rattle.rows.specs.declared.Given.{Given}
 use Rattle.rows.specs.declared.Offered.{Offered}
 use Rattle.rows.specs.declared.Taken.{Taken}
 use Rattle.rows.specs.declared.Row.{Row}
@@ -19,15 +20,15 @@ pub record Outcome (State : Type 0) : Type 0 where
   pub after : State
 
 -- the answer of an offer or a close
-abbrev pub accepting : Accepting → Answer
-accepting Accepting.Accepted = accepted
-accepting (Accepting.Refused n) = refused n
+abbrev pub accepting : Result Unit Refusal → Answer
+accepting (Ok x) = accepted
+accepting (Err why) = refused (number_of why)
 
 -- the answer of a take or a force
-abbrev pub giving : Giving → Answer
-giving (Giving.Given number slip) = given number slip
-giving Giving.Nothing = nothing
-giving (Giving.Refused n) = refused n
+abbrev pub giving : Result (Option Given) Refusal → Answer
+giving (Ok (Some m)) = given m.number m.slip
+giving (Ok None) = nothing
+giving (Err why) = refused (number_of why)
 
 -- what a row's offer says, and what its take or force says
 abbrev pub offered_says : Offered → Outcome Row

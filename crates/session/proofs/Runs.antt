@@ -1,12 +1,13 @@
 -- What one byte does, and a run of a line's or a payload's bytes taken at once.
-use Rattle.std.specs.Prelude.{if◌then◌else◌}
+use Rattle.std.specs.Prelude.{cond, not, if◌then◌else◌}
+use Rattle.std.specs.List.{prefix_len}
 use mathlib.Core.Path.{◌≡◌, refl, sym, ap, ◌∙◌}
 use Prim.Native.Nat.{ℕ, suc, ◌+◌, ◌-◌, ◌≤◌, ◌<◌}
 use native.Mathlib.Omega.{arith}
 use native.Mathlib.Decide.{ℕ_discrete}
 use mathlib.Core.Bool.{Bool, true, false}
 use mathlib.Core.List.{List, [], ◌∷◌, ◌++◌}
-use lib.ListN.{length, drop, get_or, length-set, drop_of_length-le}
+use lib.ListN.{length, take, drop, get_or, length-set, drop_of_length-le}
 use borrow.Author.Tests.{eq-eqb, ne_eqb, lt-ltb, le-ltb, eqb-true, eqb-false}
 use Rattle.octets.specs.Words.{◌=?◌}
 use Rattle.octets.specs.Bytes.{placed}
@@ -70,23 +71,38 @@ grown-more s b w h =
     let l = placed-next b w s.line_len s.line h in
     λ i. record { mode = s.mode; line_len = n i; line = sym l i; terms = s.terms; got = s.got; hash = s.hash }
 
--- quiet bytes are pushed behind the line so far
-pub run-line : (piece : List ℕ) (k : ℕ) (s : Session) → s.mode ≤ 1 → length s.line ≡ 512 → s.line_len + length (before 10 piece) ≤ 512
-    → run feed nothing k s piece ≡ run feed nothing (k + length (before 10 piece)) (grown s (before 10 piece)) (drop (length (before 10 piece)) piece)
+-- what stands before the first LF, byte by byte
+abbrev upto : List ℕ → List ℕ
+upto [] = []
+upto (b ∷ bs) = if b =? 10 then [] else b ∷ upto bs
+
+upto-is : (s : List ℕ) → before 10 s ≡ upto s
 unfolding before
-run-line [] k s m l h =
+upto-is [] = refl
+upto-is (b ∷ bs) = go (b =? 10) (upto-is bs)
+  where
+    go : (t : Bool) → before 10 bs ≡ upto bs → take (cond (not t) (1 + prefix_len (λ x. not (x =? 10)) bs) 0) (b ∷ bs) ≡ (if t then [] else (b ∷ upto bs))
+    go true e = refl
+    go false e =
+        let z : 1 + prefix_len (λ x. not (x =? 10)) bs ≡ suc (prefix_len (λ x. not (x =? 10)) bs) = omega arith in
+        rw z (ap (λ (l : List ℕ). b ∷ l) e)
+
+-- quiet bytes are pushed behind the line so far
+pushed-upto : (piece : List ℕ) (k : ℕ) (s : Session) → s.mode ≤ 1 → length s.line ≡ 512 → s.line_len + length (upto piece) ≤ 512
+    → run feed nothing k s piece ≡ run feed nothing (k + length (upto piece)) (grown s (upto piece)) (drop (length (upto piece)) piece)
+pushed-upto [] k s m l h =
     let z : k ≡ k + 0 = omega arith in
     λ i. run feed nothing (z i) (sym (grown-none s (omega arith)) i) []
-run-line (b ∷ bs) k s m l h = go (b =? 10) refl h (λ x. run-line bs (k + 1) (pushed s b) m (length-set s.line s.line_len b ∙ l) x)
+pushed-upto (b ∷ bs) k s m l h = go (b =? 10) refl h (λ x. pushed-upto bs (k + 1) (pushed s b) m (length-set s.line s.line_len b ∙ l) x)
   where
-    go : (t : Bool) → (b =? 10) ≡ t → s.line_len + length (if t then [] else (b ∷ before 10 bs)) ≤ 512
-        → (s.line_len + 1 + length (before 10 bs) ≤ 512 → run feed nothing (k + 1) (pushed s b) bs ≡ run feed nothing (k + 1 + length (before 10 bs)) (grown (pushed s b) (before 10 bs)) (drop (length (before 10 bs)) bs))
-        → run feed nothing k s (b ∷ bs) ≡ run feed nothing (k + length (if t then [] else (b ∷ before 10 bs))) (grown s (if t then [] else (b ∷ before 10 bs))) (drop (length (if t then [] else (b ∷ before 10 bs))) (b ∷ bs))
+    go : (t : Bool) → (b =? 10) ≡ t → s.line_len + length (if t then [] else (b ∷ upto bs)) ≤ 512
+        → (s.line_len + 1 + length (upto bs) ≤ 512 → run feed nothing (k + 1) (pushed s b) bs ≡ run feed nothing (k + 1 + length (upto bs)) (grown (pushed s b) (upto bs)) (drop (length (upto bs)) bs))
+        → run feed nothing k s (b ∷ bs) ≡ run feed nothing (k + length (if t then [] else (b ∷ upto bs))) (grown s (if t then [] else (b ∷ upto bs))) (drop (length (if t then [] else (b ∷ upto bs))) (b ∷ bs))
     go true e g r =
         let z : k ≡ k + 0 = omega arith in
         λ i. run feed nothing (z i) (sym (grown-none s (omega arith)) i) (b ∷ bs)
     go false e g r =
-        let w = before 10 bs in
+        let w = upto bs in
         let z : k + 1 + length w ≡ k + suc (length w) = omega arith in
         ap (λ (x : Fed Session Happening). after x k (λ y. run feed nothing (k + 1) y bs)) (line-push s b m (eqb-false _ _ e) (omega arith))
         ∙ r (omega arith)
@@ -96,14 +112,13 @@ run-line (b ∷ bs) k s m l h = go (b =? 10) refl h (λ x. run-line bs (k + 1) (
 abbrev Closes : ℕ → ℕ → Session → List ℕ → Type 0
 Closes n i t w = run feed nothing i t w ≡ record { used = i + (512 - n + 1); state = (closing [] 1).next; reply = []; happened = (closing [] 1).happening }
 
-pub run_long : (piece : List ℕ) (k : ℕ) (s : Session) → s.mode ≤ 1 → s.line_len ≤ 512 → 512 - s.line_len < length (before 10 piece)
+closed-upto : (piece : List ℕ) (k : ℕ) (s : Session) → s.mode ≤ 1 → s.line_len ≤ 512 → 512 - s.line_len < length (upto piece)
     → run feed nothing k s piece ≡ record { used = k + (512 - s.line_len + 1); state = (closing [] 1).next; reply = []; happened = (closing [] 1).happening }
-unfolding before
-run_long [] k s m l h = absurd (omega arith)
-run_long (b ∷ bs) k s m l h = go (b =? 10) refl h (λ x y. run_long bs (k + 1) (pushed s b) m x y) (ℕ_discrete s.line_len 512)
+closed-upto [] k s m l h = absurd (omega arith)
+closed-upto (b ∷ bs) k s m l h = go (b =? 10) refl h (λ x y. closed-upto bs (k + 1) (pushed s b) m x y) (ℕ_discrete s.line_len 512)
   where
-    go : (t : Bool) → (b =? 10) ≡ t → 512 - s.line_len < length (if t then [] else (b ∷ before 10 bs))
-        → (s.line_len + 1 ≤ 512 → 512 - (s.line_len + 1) < length (before 10 bs) → Closes (s.line_len + 1) (k + 1) (pushed s b) bs)
+    go : (t : Bool) → (b =? 10) ≡ t → 512 - s.line_len < length (if t then [] else (b ∷ upto bs))
+        → (s.line_len + 1 ≤ 512 → 512 - (s.line_len + 1) < length (upto bs) → Closes (s.line_len + 1) (k + 1) (pushed s b) bs)
         → Dec (s.line_len ≡ 512) → Closes s.line_len k s (b ∷ bs)
     go true e g r d = absurd (omega arith)
     go false e g r (yes f) =
@@ -117,23 +132,36 @@ run_long (b ∷ bs) k s m l h = go (b =? 10) refl h (λ x y. run_long bs (k + 1)
         ∙ (λ i. record { used = z i; state = (closing [] 1).next; reply = []; happened = (closing [] 1).happening })
 
 -- the byte behind what stands before the LF is the LF
-pub before-within : (piece : List ℕ) → length (before 10 piece) ≤ length piece
-unfolding before
-before-within [] = omega arith
-before-within (b ∷ bs) = go (b =? 10) (before-within bs)
+upto-within : (piece : List ℕ) → length (upto piece) ≤ length piece
+upto-within [] = omega arith
+upto-within (b ∷ bs) = go (b =? 10) (upto-within bs)
   where
-    go : (t : Bool) → length (before 10 bs) ≤ length bs → length (if t then [] else (b ∷ before 10 bs)) ≤ suc (length bs)
+    go : (t : Bool) → length (upto bs) ≤ length bs → length (if t then [] else (b ∷ upto bs)) ≤ suc (length bs)
     go true r = omega arith
     go false r = omega arith
 
-pub before-stops : (piece : List ℕ) → length (before 10 piece) < length piece → get_or piece (length (before 10 piece)) 0 ≡ 10
-unfolding before
-before-stops [] h = absurd (omega arith)
-before-stops (b ∷ bs) h = go (b =? 10) refl h (λ x. before-stops bs x)
+upto-stops : (piece : List ℕ) → length (upto piece) < length piece → get_or piece (length (upto piece)) 0 ≡ 10
+upto-stops [] h = absurd (omega arith)
+upto-stops (b ∷ bs) h = go (b =? 10) refl h (λ x. upto-stops bs x)
   where
-    go : (t : Bool) → (b =? 10) ≡ t → length (if t then [] else (b ∷ before 10 bs)) < suc (length bs) → (length (before 10 bs) < length bs → get_or bs (length (before 10 bs)) 0 ≡ 10) → get_or (b ∷ bs) (length (if t then [] else (b ∷ before 10 bs))) 0 ≡ 10
+    go : (t : Bool) → (b =? 10) ≡ t → length (if t then [] else (b ∷ upto bs)) < suc (length bs) → (length (upto bs) < length bs → get_or bs (length (upto bs)) 0 ≡ 10) → get_or (b ∷ bs) (length (if t then [] else (b ∷ upto bs))) 0 ≡ 10
     go true e g r = eqb-true _ _ e
     go false e g r = r (omega arith)
+
+-- the same of what the code takes
+pub run-line : (piece : List ℕ) (k : ℕ) (s : Session) → s.mode ≤ 1 → length s.line ≡ 512 → s.line_len + length (before 10 piece) ≤ 512
+    → run feed nothing k s piece ≡ run feed nothing (k + length (before 10 piece)) (grown s (before 10 piece)) (drop (length (before 10 piece)) piece)
+run-line piece k s m l h = rw (upto-is piece) (pushed-upto piece k s m l (omega (arith, ap length (upto-is piece))))
+
+pub run_long : (piece : List ℕ) (k : ℕ) (s : Session) → s.mode ≤ 1 → s.line_len ≤ 512 → 512 - s.line_len < length (before 10 piece)
+    → run feed nothing k s piece ≡ record { used = k + (512 - s.line_len + 1); state = (closing [] 1).next; reply = []; happened = (closing [] 1).happening }
+run_long piece k s m l h = closed-upto piece k s m l (omega (arith, ap length (upto-is piece)))
+
+pub before-within : (piece : List ℕ) → length (before 10 piece) ≤ length piece
+before-within piece = omega (arith, ap length (upto-is piece), upto-within piece)
+
+pub before-stops : (piece : List ℕ) → length (before 10 piece) < length piece → get_or piece (length (before 10 piece)) 0 ≡ 10
+before-stops piece h = rw (upto-is piece) (upto-stops piece (omega (arith, ap length (upto-is piece))))
 
 -- ---- bytes of a payload
 

@@ -2,7 +2,10 @@
 use mathlib.Core.Path.{◌≡◌, refl, sym, ap, ◌∙◌}
 use Rattle.octets.specs.Unique.{One, Free}
 use Rattle.talk.proofs.Unique.{one-event}
-use Rattle.session.specs.declared.Stepping.{Stepping}
+use Rattle.std.specs.Prelude.{Result, Ok, Err}
+use Rattle.refusals.specs.declared.Refusal.{Refusal}
+use Rattle.refusals.specs.Refusals.{number_of}
+use Rattle.refusals.proofs.Told.{one-refusal}
 use Rattle.session.specs.declared.Step.{Step}
 use Rattle.session.specs.declared.Opened.{Opened}
 use Rattle.session.specs.Answer.{Record, Opening, answering, says, opened_says}
@@ -12,11 +15,11 @@ use Rattle.session.proofs.feed.Kinds as feed-kinds
 use Rattle.session.proofs.feed.Reads as feed-reads
 
 -- what an answer says is said by that answer only
-one-stepping : (x y : Stepping) → answering x ≡ answering y → x ≡ y
-one-stepping Stepping.Went Stepping.Went e = refl
-one-stepping Stepping.Went (Stepping.Refused n) e = cc
-one-stepping (Stepping.Refused m) Stepping.Went e = cc
-one-stepping (Stepping.Refused m) (Stepping.Refused n) e = cc
+one-stepping : (x y : Result (Unit {0}) Refusal) → answering x ≡ answering y → x ≡ y
+one-stepping (Ok x) (Ok y) e = refl
+one-stepping (Ok x) (Err r) e = cc
+one-stepping (Err r) (Ok x) e = cc
+one-stepping (Err r) (Err s) e = let n : number_of r ≡ number_of s = cc in ap {B = Result (Unit {0}) Refusal} (λ (v : Refusal). Err v) (one-refusal r s n)
 
 one-step : (x y : Step) → says x ≡ says y → x ≡ y
 one-step x y e =

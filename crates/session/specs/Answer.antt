@@ -1,8 +1,9 @@
--- What a call answers, in document 01's words: the paper's number and values for each case of the enum `Stepping`.
-use Rattle.std.specs.Prelude.{ℕ}
+-- What a call answers, in document 01's words: the paper's number and values for each case of the answer.
+use Rattle.std.specs.Prelude.{ℕ, Result, Ok, Err}
+use Rattle.refusals.specs.declared.Refusal.{Refusal}
+use Rattle.refusals.specs.Refusals.{number_of}
 use Rattle.talk.specs.declared.Session.{Session}
 use Rattle.talk.specs.Answer.{Happening, happened}
-use Rattle.session.specs.declared.Stepping.{Stepping}
 use Rattle.session.specs.declared.Step.{Step}
 use Rattle.session.specs.declared.Opened.{Opened}
 
@@ -11,9 +12,9 @@ pub data Answer : Type 0 where
   made : Answer
   refused : (number : ℕ) → Answer
 
-abbrev pub answering : Stepping → Answer
-answering Stepping.Went = made
-answering (Stepping.Refused n) = refused n
+abbrev pub answering : Result (Unit {0}) Refusal → Answer
+answering (Ok x) = made
+answering (Err r) = refused (number_of r)
 
 -- a step's record: the answer, the bytes used, what happened, the bytes of the reply, and the session after it
 pub record Record : Type 0 where

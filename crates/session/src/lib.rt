@@ -9,21 +9,15 @@ ghost use Rattle.session.specs.Calls.{step_of, open_of, open_reply};
 mod pieces;
 
 use line::Line;
+use refusals::Refusal;
 use replies::Reply;
 pub use session_rules::LONGEST_REPLY;
 use talk::{Event, Session};
 
-// Whether a call was made, or refused by the paper's number.
-#[derive(Clone, Copy)]
-pub enum Stepping {
-    Went,
-    Refused(u8),
-}
-
-// A step's record: the bytes used, what happened, the bytes of the reply, the fields of an offer's line, and the session after it.
+// A step's record: whether the call was made or refused, the bytes used, what happened, the bytes of the reply, the fields of an offer's line, and the session after it.
 #[derive(Clone, Copy)]
 pub struct Step {
-    pub stepping: Stepping,
+    pub stepping: Result<(), Refusal>,
     pub used: usize,
     pub event: Event,
     pub written: usize,
@@ -33,7 +27,7 @@ pub struct Step {
 
 #[derive(Clone, Copy)]
 pub struct Opened {
-    pub stepping: Stepping,
+    pub stepping: Result<(), Refusal>,
     pub written: usize,
     pub session: Session,
 }
@@ -43,21 +37,17 @@ pub fn open_session(reply: &mut [u8]) -> Opened
     ensures { (opened_says result ≡ open_of (length reply.old)) × (reply.new ≡ front (open_reply (length reply.old)) reply.old) }
 {
     if reply.len() < LONGEST_REPLY {
-        let session = talk::closed();
-        let stepping = Stepping::Refused(refusals::BUFFER_TOO_SHORT);
         return Opened {
-            stepping,
+            stepping: Err(Refusal::BufferTooShort),
             written: 0,
-            session,
+            session: talk::closed(),
         };
     }
     let written = replies::say(Reply::Prompt, b"", reply);
-    let session = talk::listening();
-    let stepping = Stepping::Went;
     Opened {
-        stepping,
+        stepping: Ok(()),
         written,
-        session,
+        session: talk::listening(),
     }
 }
 
@@ -66,7 +56,7 @@ pub fn feed(s: Session, piece: &[u8], payload: &mut [u8], reply: &mut [u8]) -> S
     ensures { (says result ≡ (step_of s piece.now payload.old (length reply.old)).step_record) × (payload.new ≡ (step_of s piece.now payload.old (length reply.old)).payload) × (reply.new ≡ front (step_of s piece.now payload.old (length reply.old)).reply reply.old) }
 {
     let line = s.line;
-    let number = session_rules::refusal(
+    let tested = session_rules::refusal(
         s.mode,
         s.line_len,
         &line,
@@ -75,8 +65,8 @@ pub fn feed(s: Session, piece: &[u8], payload: &mut [u8], reply: &mut [u8]) -> S
         payload.len(),
         reply.len(),
     );
-    if number > 0 {
-        return pieces::silent(Stepping::Refused(number), 0, s);
+    if let Err(r) = tested {
+        return pieces::silent(Err(r), 0, s);
     }
     if s.mode == 2 {
         return pieces::receive(s, piece, payload, reply);

@@ -1,7 +1,8 @@
 // A piece of the peer's bytes: quiet bytes are taken in at once, then at most one byte that stops the call. Where all are quiet the step is made at
 // once: nothing is due, and a host that feeds byte by byte pays for one step with no line's fields.
-ghost use Rattle.std.specs.Prelude.{◌≡◌, ◌≤◌, ◌<◌, take, replicate};
+ghost use Rattle.std.specs.Prelude.{◌≡◌, ◌≤◌, ◌<◌, take, replicate, Some};
 ghost use Rattle.octets.specs.Bytes.{placed};
+ghost use Rattle.refusals.specs.declared.Refusal.{Refusal};
 ghost use Rattle.machine.specs.Machine.{run};
 ghost use Rattle.talk.specs.declared.Event.{Event};
 ghost use Rattle.talk.specs.Sessions.{closed};
@@ -11,38 +12,38 @@ ghost use Rattle.session.specs.Feed.{feed};
 ghost use Rattle.session.specs.Answer.{made, answering, says};
 ghost use Rattle.session.specs.Runs.{silence, telling, line_turn, Spoken};
 
-use crate::{Step, Stepping};
+use crate::Step;
+use refusals::Refusal;
 use talk::{Ending, Event, Said, Session, Terms};
 
 // Nothing is said, and nothing happened.
-pub(crate) fn silent(stepping: Stepping, used: usize, session: Session) -> Step
+pub(crate) fn silent(stepping: Result<(), Refusal>, used: usize, session: Session) -> Step
     ensures { says result ≡ silence (answering stepping) used Event.Nothing session }
 {
-    let line = talk::no_line();
     Step {
         stepping,
         used,
         event: Event::Nothing,
         written: 0,
-        line,
+        line: talk::no_line(),
         session,
     }
 }
 
 // A 513th byte of a line closes the session, and nothing is said.
 fn too_long(used: usize) -> Step
-    ensures { says result ≡ silence made used (Event.End (record { reason = 1 })) closed }
+    ensures { says result ≡ silence made used (Event.End (record { reason = Some Refusal.LineMalformed })) closed }
 {
-    let ending = Ending { reason: 1 };
-    let line = talk::no_line();
-    let session = talk::closed();
+    let ending = Ending {
+        reason: Some(Refusal::LineMalformed),
+    };
     Step {
-        stepping: Stepping::Went,
+        stepping: Ok(()),
         used,
         event: Event::End(ending),
         written: 0,
-        line,
-        session,
+        line: talk::no_line(),
+        session: talk::closed(),
     }
 }
 
@@ -50,16 +51,13 @@ fn too_long(used: usize) -> Step
 fn told(used: usize, said: Said) -> Step
     ensures { says result ≡ telling used said }
 {
-    let event = said.event;
-    let line = said.line;
-    let session = said.session;
     Step {
-        stepping: Stepping::Went,
+        stepping: Ok(()),
         used,
-        event,
+        event: said.event,
         written: said.written,
-        line,
-        session,
+        line: said.line,
+        session: said.session,
     }
 }
 
@@ -91,7 +89,7 @@ pub(crate) fn listen(mut s: Session, piece: &[u8], reply: &mut [u8]) -> Step
     if n == piece.len() {
         s.line = line;
         s.line_len = before + n;
-        return silent(Stepping::Went, n, s);
+        return silent(Ok(()), n, s);
     }
     let text = lengths::part(&line, before + n);
     told(n + 1, hear(s.mode, s.terms, text, reply))
@@ -122,5 +120,5 @@ pub(crate) fn receive(s: Session, piece: &[u8], payload: &mut [u8], reply: &mut 
         got: got + n,
         hash: next,
     };
-    silent(Stepping::Went, n, session)
+    silent(Ok(()), n, session)
 }

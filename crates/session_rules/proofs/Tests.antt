@@ -7,11 +7,11 @@ use native.Mathlib.Decide.{ℕ_discrete, dec_le}
 use mathlib.Core.Bool.{Bool, true, false}
 use mathlib.Core.List.{List, [], ◌∷◌}
 use lib.ListN.{length, drop, replicate}
-use borrow.Author.Tests.{eq-eqb, ne_eqb, lt-ltb, le-ltb, le-leb, lt-leb, eqb-true, eqb-false, ltb-true, ltb-false, leb-true}
+use borrow.Author.Tests.{eq-eqb, ne_eqb, lt-ltb, le-ltb, le-leb, eqb-true, eqb-false, ltb-true, ltb-false, leb-true}
 use Rattle.octets.specs.Words.{◌and◌, ◌or◌, ◌<?◌, ◌≤?◌, ◌=?◌}
 use Rattle.octets.specs.Words as words
 use Rattle.octets.specs.Bytes.{all_zero}
-use Rattle.octets.proofs.Tests.{if_yes, if_no, and_left, and_right, and_both, and-next, and-not-left, and-not-right, or_no, no_true, no_false}
+use Rattle.octets.proofs.Tests.{if_yes, if_no, and_left, and_right, and_both, and-next, or_no, no_true, no_false}
 use Rattle.refusals.specs.Numbers.{buffer_too_short, session_closed, state_broken, longest_payload}
 use Rattle.field_rules.specs.Rules.{id_in}
 use Rattle.talk.specs.declared.Session.{Session}
@@ -23,10 +23,6 @@ abbrev pub longest : ℕ → ℕ
 longest mode = if mode <? 2 then 512 else 0
 
 module _ (s : Session) where
-  pub line-over : longest s.mode < s.line_len → keeps_line s ≡ false
-  unfolding keeps_line
-  line-over h = and-not-left _ _ (lt-leb s.line_len (longest s.mode) h)
-
   pub line-rest : s.line_len ≤ longest s.mode → keeps_line s ≡ all_zero (drop s.line_len s.line)
   unfolding keeps_line
   line-rest h = and-next _ _ (le-leb s.line_len (longest s.mode) h)
@@ -40,25 +36,6 @@ module _ (s : Session) where
   payload-none m = if_no _ _ _ (ne_eqb s.mode 2 m)
 
 -- ---- all of them
-
-module _ (s : Session) where
-  pub mode-high : 3 < s.mode → keeps_session s ≡ false
-  unfolding keeps_session
-  mode-high h = and-not-left _ _ (lt-leb s.mode 3 h)
-
-  module _ (low : s.mode ≤ 3) where
-    pub line-bad : keeps_line s ≡ false → keeps_session s ≡ false
-    unfolding keeps_session
-    line-bad e = and-next _ _ (le-leb s.mode 3 low) ∙ and-not-right (length s.line =? 512) _ (and-not-left _ _ e)
-
-    module _ (line : keeps_line s ≡ true) where
-      pub terms-bad : keeps_terms s.terms ≡ false → keeps_session s ≡ false
-      unfolding keeps_session
-      terms-bad f = and-next _ _ (le-leb s.mode 3 low) ∙ and-not-right (length s.line =? 512) _ (and-next _ _ line ∙ and-not-left _ _ f)
-
-      pub payload-left : length s.line ≡ 512 → keeps_terms s.terms ≡ true → keeps_session s ≡ keeps_payload s
-      unfolding keeps_session
-      payload-left long f = and-next _ _ (le-leb s.mode 3 low) ∙ and-next _ _ (eq-eqb _ _ long) ∙ and-next _ _ line ∙ and-next _ _ f
 
 -- what the rules say of a session that keeps them
 pub record Kept (s : Session) : Type 0 where

@@ -3,17 +3,20 @@
 #![tactic(auto)]
 
 ghost use Rattle.std.specs.Prelude.{◌≡◌};
+ghost use Rattle.refusals.specs.Refusals.{refusal_in};
 ghost use Rattle.session_rules.specs.Rules.{session_by, step_refusal};
 
 mod rules;
 
+use refusals::Refusal;
 use talk::Terms;
 
 // The longest reply, and the shortest reply buffer.
 pub const LONGEST_REPLY: usize = 24;
 
-// The number of a refusal, 0 where there is none: 40, then 22, then 5. It takes the fields that have rules, and the line by reference: a session
+// What refuses a call: 40, then 22, then 5. It takes the fields that have rules, and the line by reference: a session
 // that is passed on is copied.
+#[tactic(auto, unfolding(crate::specs::Rules::step_refusal))]
 pub fn refusal(
     mode: u8,
     line_len: usize,
@@ -22,17 +25,17 @@ pub fn refusal(
     got: usize,
     payload: usize,
     reply: usize,
-) -> u8
-    ensures { result ≡ step_refusal (session_by mode line_len line.now terms got) payload reply }
+) -> Result<(), Refusal>
+    ensures { refusal_in result ≡ step_refusal (session_by mode line_len line.now terms got) payload reply }
 {
     if !rules::keep_rules(mode, line_len, line, terms, got) {
-        return refusals::STATE_BROKEN;
+        return Err(Refusal::StateBroken);
     }
     if mode == 3 {
-        return refusals::SESSION_CLOSED;
+        return Err(Refusal::SessionClosed);
     }
     if rules::too_short(payload, reply) {
-        return refusals::BUFFER_TOO_SHORT;
+        return Err(Refusal::BufferTooShort);
     }
-    0
+    Ok(())
 }

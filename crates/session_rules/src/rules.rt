@@ -1,6 +1,6 @@
 // The tests, one by one.
 ghost use Rattle.std.specs.Prelude.{◌≡◌, if◌then◌else◌};
-ghost use Rattle.octets.specs.Words.{◌or◌, ◌<?◌};
+ghost use Rattle.octets.specs.Words.{◌or◌, ◌<?◌, ◌=?◌};
 ghost use Rattle.refusals.specs.Numbers.{longest_payload};
 ghost use Rattle.session_rules.specs.Rules.{session_by, keeps_session, longest_reply};
 
@@ -16,21 +16,21 @@ fn longest_line(mode: u8) -> usize
     0
 }
 
+#[tactic(auto, unfolding(crate::specs::Rules::keeps_session, crate::specs::Rules::keeps_line, crate::specs::Rules::keeps_payload))]
 pub(crate) fn keep_rules(mode: u8, n: usize, line: &[u8; 512], terms: Terms, got: usize) -> bool
     ensures { result ≡ keeps_session (session_by mode n line.now terms got) }
 {
-    if 3 < mode {
-        return false;
-    }
-    if longest_line(mode) < n {
-        return false;
-    }
-    if !lengths::zero_from(line, n) {
-        return false;
-    }
-    if !talk::keep_rules(terms) {
-        return false;
-    }
+    mode <= 3
+        && n <= longest_line(mode)
+        && lengths::zero_from(line, n)
+        && talk::keep_rules(terms)
+        && keeps_payload(mode, terms, got)
+}
+
+// Whether a byte of a payload that comes is still to come; where none comes, whether none has come.
+fn keeps_payload(mode: u8, terms: Terms, got: usize) -> bool
+    ensures { result ≡ (if mode =? 2 then got <? terms.len else got =? 0) }
+{
     if mode == 2 {
         return got < terms.len as usize;
     }
@@ -41,8 +41,5 @@ pub(crate) fn keep_rules(mode: u8, n: usize, line: &[u8; 512], terms: Terms, got
 pub(crate) fn too_short(payload: usize, reply: usize) -> bool
     ensures { result ≡ (payload <? longest_payload or reply <? longest_reply) }
 {
-    if payload < refusals::LONGEST_PAYLOAD {
-        return true;
-    }
-    reply < crate::LONGEST_REPLY
+    payload < refusals::LONGEST_PAYLOAD || reply < crate::LONGEST_REPLY
 }

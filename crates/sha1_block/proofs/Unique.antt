@@ -9,8 +9,8 @@ use Rattle.sha1_block.proofs.chain.Reads as chain-reads
 pub taken-one : One 1 taken-kinds.ps taken-kinds.r taken-reads.Post
 taken-one κs a x y v w p q = (p ∙ sym q, refl)
 
-pub taken_free : Free 1 taken-kinds.ps taken-reads.Pre
-taken_free κs a = tt
+pub taken-free : Free 1 taken-kinds.ps taken-reads.Pre
+taken-free κs a = tt
 
 pub chain-one : One 1 chain-kinds.ps chain-kinds.r chain-reads.Post
 chain-one κs a x y v w p q = (p ∙ sym q, refl)

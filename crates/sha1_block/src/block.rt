@@ -9,7 +9,7 @@ fn rotl(n: u32, x: u32) -> u32
     requires { (0 < n) × (n < 32) }
     ensures { result ≡ fips.rotl n x }
 {
-    (x << n) | (x >> (32 - n))
+    x.rotate_left(n)
 }
 
 // The function and the constant of round t, added.
@@ -17,24 +17,24 @@ fn f_and_k(t: usize, x: u32, y: u32, z: u32) -> u32
     ensures { result ≡ (fips.f t x y z + fips.k t) % 2 ^ 32 }
 {
     if t < 20 {
-        return std::num::wrapping_add_u32((x & y) ^ (!x & z), 0x5A827999);
+        return ((x & y) ^ (!x & z)).wrapping_add(0x5A827999);
     }
     if t < 40 {
-        return std::num::wrapping_add_u32(x ^ y ^ z, 0x6ED9EBA1);
+        return (x ^ y ^ z).wrapping_add(0x6ED9EBA1);
     }
     if t < 60 {
-        return std::num::wrapping_add_u32((x & y) ^ (x & z) ^ (y & z), 0x8F1BBCDC);
+        return ((x & y) ^ (x & z) ^ (y & z)).wrapping_add(0x8F1BBCDC);
     }
-    std::num::wrapping_add_u32(x ^ y ^ z, 0xCA62C1D6)
+    (x ^ y ^ z).wrapping_add(0xCA62C1D6)
 }
 
 fn round(t: usize, w: u32, s: Hash) -> Hash
     ensures { result ≡ fips.round t w s }
 {
-    let x = std::num::wrapping_add_u32(rotl(5, s.a), f_and_k(t, s.b, s.c, s.d));
-    let y = std::num::wrapping_add_u32(x, s.e);
+    let x = rotl(5, s.a).wrapping_add(f_and_k(t, s.b, s.c, s.d));
+    let y = x.wrapping_add(s.e);
     Hash {
-        a: std::num::wrapping_add_u32(y, w),
+        a: y.wrapping_add(w),
         b: s.a,
         c: rotl(30, s.b),
         d: s.c,
@@ -42,22 +42,17 @@ fn round(t: usize, w: u32, s: Hash) -> Hash
     }
 }
 
+#[tactic(auto, unfolding(crate::specs::Block::plus))]
 fn plus(h: Hash, v: Hash) -> Hash
     ensures { result ≡ fips.plus h v }
 {
     Hash {
-        a: std::num::wrapping_add_u32(h.a, v.a),
-        b: std::num::wrapping_add_u32(h.b, v.b),
-        c: std::num::wrapping_add_u32(h.c, v.c),
-        d: std::num::wrapping_add_u32(h.d, v.d),
-        e: std::num::wrapping_add_u32(h.e, v.e),
+        a: h.a.wrapping_add(v.a),
+        b: h.b.wrapping_add(v.b),
+        c: h.c.wrapping_add(v.c),
+        d: h.d.wrapping_add(v.d),
+        e: h.e.wrapping_add(v.e),
     }
-}
-
-fn join(a: u8, b: u8, c: u8, d: u8) -> u32
-    ensures { result ≡ a * 2 ^ 24 + b * 2 ^ 16 + c * 2 ^ 8 + d }
-{
-    (a as u32) * 16777216 + (b as u32) * 65536 + (c as u32) * 256 + (d as u32)
 }
 
 // The four bytes of s at i, the highest first.
@@ -65,7 +60,7 @@ fn word(s: &[u8], i: usize) -> u32
     requires { i + 4 ≤ length s.now }
     ensures { result ≡ fips.word s.now i }
 {
-    join(s[i], s[i + 1], s[i + 2], s[i + 3])
+    u32::from_be_bytes([s[i], s[i + 1], s[i + 2], s[i + 3]])
 }
 
 fn mix(w: &[u32; 80], t: usize) -> u32
@@ -81,14 +76,11 @@ fn schedule(s: &[u8], at: usize) -> [u32; 80]
     ensures { result ≡ fips.schedule (take 64 (drop at s.now)) 80 }
 {
     let mut w = [0u32; 80];
-    let mut t: usize = 0;
-    while t < 16 {
+    for t in 0..16 {
         w[t] = word(s, at + 4 * t);
-        t += 1;
     }
-    while t < 80 {
+    for t in 16..80 {
         w[t] = mix(&w, t);
-        t += 1;
     }
     w
 }
@@ -99,10 +91,8 @@ fn run(v: Hash, w: &[u32; 80], from: usize, to: usize) -> Hash
     ensures { (h : Hash) → v ≡ fips.rounds w.now from h → result ≡ fips.rounds w.now to h }
 {
     let mut s = v;
-    let mut t = from;
-    while t < to {
+    for t in from..to {
         s = round(t, w[t], s);
-        t += 1;
     }
     s
 }

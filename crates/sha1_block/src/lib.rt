@@ -32,10 +32,8 @@ pub fn chain(h: Hash, s: &[u8]) -> Hash
     ensures { result ≡ fips.chain h s.now (length s.now / 64) }
 {
     let mut v = h;
-    let mut n: usize = 0;
-    while n < s.len() / 64 {
+    for n in 0..s.len() / 64 {
         v = block::compress(v, s, 64 * n);
-        n += 1;
     }
     v
 }

@@ -27,18 +27,17 @@ from_all : (a : ℕ) (s : List ℕ) → from a s ≡ drop a s
 from_all a s = take_all (length s - a) (drop a s) (rw length-drop (omega arith))
 
 -- what fills the waiting block leaves none begun, and the rest follows it
-module _ (st one : Sha1) (s : List ℕ) (room : ℕ) (p : one ≡ fed_all st (take (room - 0) (drop 0 s))) where
+module _ (st one : Sha1) (s : List ℕ) (room : ℕ) (p : one ≡ fed_all st (take room s)) where
   pub block-filled : st.total < 2 ^ 64 → room ≡ (64 - st.total % 64) % 64 → room ≤ length s → one.total % 64 ≡ 0
   block-filled small e k =
-      let l : length (take (room - 0) s) ≡ room = simp length-take (omega arith) in
+      let l : length (take room s) ≡ room = simp length-take (omega arith) in
       let d : (st.total + room) % 64 ≡ 0 = omega arith in
-      ap (λ st. st.total % 64) p ∙ fill st (take (room - 0) s) room small l ∙ d
+      ap (λ st. st.total % 64) p ∙ fill st (take room s) room small l ∙ d
 
   pub two-parts : (two : Sha1) → two ≡ fed_all one (from room s) → two ≡ fed_all st s
   two-parts two q =
-      let e : room - 0 ≡ room = omega arith in
-      let w : take (room - 0) s ++ from room s ≡ s = rw e (ap (λ r. take room s ++ r) (from_all room s) ∙ take-append-drop room s) in
-      q ∙ ap (λ st. fed_all st (from room s)) p ∙ sym (parts st (take (room - 0) s) (from room s)) ∙ ap (fed_all st) w
+      let w : take room s ++ from room s ≡ s = ap (λ r. take room s ++ r) (from_all room s) ∙ take-append-drop room s in
+      q ∙ ap (λ st. fed_all st (from room s)) p ∙ sym (parts st (take room s) (from room s)) ∙ ap (fed_all st) w
 
 -- whole blocks, and the rest
 module _ (st one : Sha1) (s : List ℕ) (end : ℕ) (e : end ≡ length s / 64 * 64) (p : one ≡ fed_all st (take (64 * (length s / 64)) s)) where
@@ -67,10 +66,10 @@ abbrev marks : ℕ → List ℕ
 marks n = 0x80 ∷ replicate n 0
 
 -- the mark's block up to n bytes
-pub marked : (n : ℕ) → 0 < n → n ≤ 64 → take (n - 0) (marks 63) ≡ marks (n - 1)
+pub marked : (n : ℕ) → 0 < n → n ≤ 64 → take n (marks 63) ≡ marks (n - 1)
 marked n h k =
-    let e : n - 0 ≡ suc (n - 1) = omega arith in
-    rw e (ap (λ r. 0x80 ∷ r) (take-replicate (n - 1) 63 (omega arith)))
+    let e : n ≡ suc (n - 1) = omega arith in
+    ap (λ (m : ℕ). take m (marks 63)) e ∙ ap (λ r. 0x80 ∷ r) (take-replicate (n - 1) 63 (omega arith))
 
 module _ (st one : Sha1) (small : st.total < 2 ^ 64) (to : ℕ) (h : st.total % 64 < to) (k : to ≤ 64) (p : one ≡ fed_all st (marks (to - st.total % 64 - 1))) where
   -- how far the block is filled after the mark and zeros

@@ -1,5 +1,5 @@
 -- The id: its number is the digest's first 28 bits, its digits are what `text` writes of it, and pieces after a salt have the payload's id.
-use Rattle.std.proofs.Common.{◌≡◌, ℕ, zero, suc, ◌/◌, ◌%◌, ◌^◌, ◌<◌, ◌≤◌, true, false, List, [], ◌∷◌, ◌++◌, length, take, replicate, ℤ, sym, ap, ◌∙◌, arith, take_at, le-ltb, lt-ltb}
+use Rattle.std.proofs.Common.{◌≡◌, ℕ, zero, suc, ◌/◌, ◌%◌, ◌^◌, ◌<◌, ◌≤◌, List, [], ◌∷◌, ◌++◌, length, take, replicate, ℤ, sym, ap, ◌∙◌, arith, take_at, le-ltb, lt-ltb}
 use lib.Seq.{take-append-le}
 use Rattle.octets.specs.Bytes.{placed}
 use Rattle.octets.specs.Numbers.{little_bytes, twos}
@@ -12,7 +12,7 @@ use Rattle.text.proofs.Numerals.{length_digits}
 use Rattle.text.proofs.Hexes.{hex-back}
 use Rattle.sha1_block.specs.declared.Hash.{Hash}
 use Rattle.sha1_digest.specs.declared.Sha1.{Sha1}
-use Rattle.sha1_digest.specs.declared.Salt.{Salt}
+use Rattle.std.specs.Prelude.{Option, Some}
 use Rattle.sha1_block.specs.Block.{plus, compressed, chain}
 use Rattle.sha1_digest.specs.Sha1.{initial, sha1}
 use Rattle.sha1_digest.specs.Machine.{fresh, fed_all, fed_pieces, concatenated, finished}
@@ -44,26 +44,23 @@ pub sha1-written : (s : List ℕ) → hex_digits 7 (id_number (sha1 s)) ≡ firs
 unfolding sha1
 sha1-written s = written (sha1 s) (chain-lt _ _)
 
-short-enough : (salt : Salt) (payload : List ℕ) → length payload ≤ longest_payload → is (id_number (sha1 (salt_bytes salt ++ payload))) ≡ message_id salt payload
+short-enough : (salt : Option ℤ) (payload : List ℕ) → length payload ≤ longest_payload → is (id_number (sha1 (salt_bytes salt ++ payload))) ≡ message_id salt payload
 short-enough salt payload k = sym (if_no _ _ _ (le-ltb longest_payload (length payload) k))
 
 -- a salt and then a payload in any pieces: the id is that of the payload as a whole
-pub id-of-pieces : (salt : Salt) (ps : List (List ℕ)) → length (concatenated ps) ≤ longest_payload
+pub id-of-pieces : (salt : Option ℤ) (ps : List (List ℕ)) → length (concatenated ps) ≤ longest_payload
     → is (id_number (finished (fed_pieces (fed_all fresh (salt_bytes salt)) ps))) ≡ message_id salt (concatenated ps)
 id-of-pieces salt ps k = ap (λ h. is (id_number h)) (any-pieces (salt_bytes salt ∷ ps)) ∙ short-enough salt (concatenated ps) k
 
 -- ---- what the code makes
 
-module _ (salt : Salt) where
-  pub unsalted : (st : Sha1) → salt.given ≡ false → st ≡ fresh → st ≡ fed_all fresh (salt_bytes salt)
-  unsalted st e p = p ∙ sym (ap (fed_all fresh) (if_no salt.given _ _ e))
-
-  pub salted : (bytes : List ℕ) (new st : Sha1) (z : ℤ) → salt.given ≡ true → z ≡ salt.value → bytes ≡ placed (little_bytes 8 (twos z)) 0 (replicate 8 0)
+module _ (salt : Option ℤ) where
+  pub salted : (bytes : List ℕ) (new st : Sha1) (z value : ℤ) → salt ≡ Some value → z ≡ value → bytes ≡ placed (little_bytes 8 (twos z)) 0 (replicate 8 0)
       → new ≡ fresh → st ≡ fed_all new bytes → st ≡ fed_all fresh (salt_bytes salt)
-  salted bytes new st z e v b p q =
-      let s = little_bytes 8 (twos salt.value) in
-      let w : bytes ≡ s = b ∙ ap (λ z. placed (little_bytes 8 (twos z)) 0 (replicate 8 0)) v ∙ over s (replicate 8 0) (sym (length-bytes 8 (twos salt.value))) in
-      q ∙ ap (λ n. fed_all n bytes) p ∙ ap (fed_all fresh) (w ∙ sym (if_yes salt.given _ _ e))
+  salted bytes new st z value e v b p q =
+      let s = little_bytes 8 (twos value) in
+      let w : bytes ≡ s = b ∙ ap (λ z. placed (little_bytes 8 (twos z)) 0 (replicate 8 0)) v ∙ over s (replicate 8 0) (sym (length-bytes 8 (twos value))) in
+      q ∙ ap (λ n. fed_all n bytes) p ∙ ap (fed_all fresh) (w ∙ ap salt_bytes (sym e))
 
   module _ (payload : List ℕ) where
     pub too_long : longest_payload < length payload → refused payload_too_long ≡ message_id salt payload

@@ -1,7 +1,10 @@
 -- Every public function leaves one outcome and asks nothing.
-use Rattle.std.proofs.Common.{◌≡◌, sym, refl, ◌∙◌}
+use Rattle.std.proofs.Common.{◌≡◌, sym, refl, ap, ◌∙◌}
 use Rattle.octets.specs.Unique.{One, Free}
-use Rattle.sha1_digest.specs.declared.IdAnswer.{IdAnswer}
+use Rattle.std.specs.Prelude.{ℕ, Result, Ok, Err}
+use Rattle.refusals.specs.declared.Refusal.{Refusal}
+use Rattle.refusals.specs.Refusals.{number_of}
+use Rattle.refusals.proofs.Told.{one-refusal}
 use Rattle.sha1_digest.specs.Id.{says}
 use Rattle.sha1_digest.proofs.Sha1.new.Kinds as new-kinds
 use Rattle.sha1_digest.proofs.Sha1.new.Reads as new-reads
@@ -17,11 +20,11 @@ use Rattle.sha1_digest.proofs.message_id.Kinds as message-id-kinds
 use Rattle.sha1_digest.proofs.message_id.Reads as message-id-reads
 
 -- what an answer says is said by that answer only
-one-id : (x y : IdAnswer) → says x ≡ says y → x ≡ y
-one-id (IdAnswer.Is m) (IdAnswer.Is n) e = cc
-one-id (IdAnswer.Is m) (IdAnswer.Refused n) e = cc
-one-id (IdAnswer.Refused m) (IdAnswer.Is n) e = cc
-one-id (IdAnswer.Refused m) (IdAnswer.Refused n) e = cc
+one-id : (x y : Result ℕ Refusal) → says x ≡ says y → x ≡ y
+one-id (Ok m) (Ok n) e = cc
+one-id (Ok m) (Err r) e = cc
+one-id (Err r) (Ok n) e = cc
+one-id (Err q) (Err r) e = let n : number_of q ≡ number_of r = cc in ap Err (one-refusal q r n)
 
 pub new-one : One 0 new-kinds.ps new-kinds.r new-reads.Post
 new-one κs a x y v w p q = (p ∙ sym q, refl)

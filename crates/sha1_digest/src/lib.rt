@@ -7,6 +7,7 @@ ghost use Rattle.sha1_digest.specs.Id.{salt_bytes, id_number, message_id, says};
 
 mod pieces;
 
+use refusals::{LONGEST_PAYLOAD, Refusal};
 use sha1_block::Hash;
 
 // A hash that is being fed. Every value is a state: the bytes of `block` that wait are the first `total % 64`.
@@ -15,20 +16,6 @@ pub struct Sha1 {
     pub h: Hash,
     pub block: [u8; 64],
     pub total: u64,
-}
-
-// The salt of a message, where one is given.
-#[derive(Clone, Copy)]
-pub struct Salt {
-    pub given: bool,
-    pub value: i64,
-}
-
-// An id is a number of 28 bits.
-#[derive(Clone, Copy)]
-pub enum IdAnswer {
-    Is(u32),
-    Refused(u8),
 }
 
 impl Sha1 {
@@ -49,15 +36,15 @@ impl Sha1 {
         }
     }
 
-    // A message id begins with its salt.
-    pub fn salted(salt: Salt) -> Sha1
+    // A message id begins with its salt, where one is given.
+    pub fn salted(salt: Option<i64>) -> Sha1
         ensures { result ≡ fed_all fresh (salt_bytes salt) }
     {
-        if !salt.given {
+        let Some(value) = salt else {
             return Sha1::new();
-        }
+        };
         let mut bytes = [0u8; 8];
-        octets::put_i64(salt.value, &mut bytes, 0);
+        octets::put_i64(value, &mut bytes, 0);
         Sha1::new().feed_all(&bytes)
     }
 
@@ -69,7 +56,7 @@ impl Sha1 {
         if s.len() < room {
             return pieces::put(self, s);
         }
-        let started = pieces::put(self, &s[0..room]);
+        let started = pieces::put(self, &s[..room]);
         pieces::from_start(started, &s[room..])
     }
 
@@ -89,17 +76,16 @@ impl Sha1 {
     pub fn first_28_bits(self) -> u32
         ensures { result ≡ id_number (finished self) }
     {
-        let h = self.finish();
-        h.a >> 4
+        self.finish().a >> 4
     }
 }
 
-// The id of a payload that is there as a whole.
-pub fn message_id(salt: Salt, payload: &[u8]) -> IdAnswer
+// The id of a payload that is there as a whole: a number of 28 bits.
+pub fn message_id(salt: Option<i64>, payload: &[u8]) -> Result<u32, Refusal>
     ensures { says result ≡ message_id salt payload.now }
 {
-    if refusals::LONGEST_PAYLOAD < payload.len() {
-        return IdAnswer::Refused(refusals::PAYLOAD_TOO_LONG);
+    if LONGEST_PAYLOAD < payload.len() {
+        return Err(Refusal::PayloadTooLong);
     }
-    IdAnswer::Is(Sha1::salted(salt).feed_all(payload).first_28_bits())
+    Ok(Sha1::salted(salt).feed_all(payload).first_28_bits())
 }

@@ -16,7 +16,7 @@ pub(crate) fn put(st: Sha1, s: &[u8]) -> Sha1
     let mut filled = st.block;
     octets::copy_at(s, &mut filled, at);
     let next = sha1_block::taken(h, &filled, at + s.len());
-    let total = std::num::wrapping_add_u64(st.total, s.len() as u64);
+    let total = st.total.wrapping_add(s.len() as u64);
     Sha1 {
         h: next,
         block: filled,
@@ -37,7 +37,7 @@ pub(crate) fn blocks(st: Sha1, s: &[u8]) -> Sha1
     let last = end - 64;
     let mut filled = st.block;
     octets::copy_at(&s[last..end], &mut filled, 0);
-    let total = std::num::wrapping_add_u64(st.total, end as u64);
+    let total = st.total.wrapping_add(end as u64);
     Sha1 {
         h,
         block: filled,
@@ -62,7 +62,7 @@ pub(crate) fn mark(st: Sha1, to: usize) -> Sha1
     let n = to - (st.total % 64) as usize;
     let mut bytes = [0u8; 64];
     bytes[0] = 0x80;
-    put(st, &bytes[0..n])
+    put(st, &bytes[..n])
 }
 
 // The length in bits of a message of `total` bytes, the highest byte first, ends the last block.
@@ -71,16 +71,5 @@ pub(crate) fn close(st: Sha1, total: u64) -> Hash
     ensures { result ≡ (fed_all st (big64 (8 * total))).h }
 {
     let bits = total << 3;
-    let bytes = [
-        ((bits >> 56) % 256) as u8,
-        ((bits >> 48) % 256) as u8,
-        ((bits >> 40) % 256) as u8,
-        ((bits >> 32) % 256) as u8,
-        ((bits >> 24) % 256) as u8,
-        ((bits >> 16) % 256) as u8,
-        ((bits >> 8) % 256) as u8,
-        (bits % 256) as u8,
-    ];
-    let end = put(st, &bytes);
-    end.h
+    put(st, &bits.to_be_bytes()).h
 }

@@ -1,5 +1,5 @@
 -- Worked examples, computed: the standard's "abc", the empty message, the standard's 56 bytes, whose padding takes a second block, and two ids.
-use mathlib.Core.Bool.{true, false}
+use Rattle.std.specs.Prelude.{Some, None}
 use mathlib.Core.List.{List, [], ◌∷◌, ◌++◌}
 use mathlib.Core.Path.{◌≡◌, refl}
 use Prim.Native.Nat.{ℕ, ◌+◌}
@@ -27,16 +27,16 @@ pub second_block : sha1 (letters 0x61 ++ (letters 0x62 ++ (letters 0x63 ++ (lett
 unfolding quarter padding scheduled schedule round rounds plus compressed chain sha1
 second_block = refl
 
-pub id-of-abc : id_number (sha1 (salt_bytes (record { given = false; value = pos 0 }) ++ (0x61 ∷ 0x62 ∷ 0x63 ∷ []))) ≡ 0xA9993E3
+pub id-of-abc : id_number (sha1 (salt_bytes None ++ (0x61 ∷ 0x62 ∷ 0x63 ∷ []))) ≡ 0xA9993E3
 unfolding quarter padding scheduled schedule round rounds plus compressed chain sha1 digits value
 id-of-abc = refl
 
 -- a salted id: the salt 1714982400000 and `hello`
-pub salted-id : id_number (sha1 (salt_bytes (record { given = true; value = pos 1714982400000 }) ++ (0x68 ∷ 0x65 ∷ 0x6C ∷ 0x6C ∷ 0x6F ∷ []))) ≡ 0xF628422
+pub salted-id : id_number (sha1 (salt_bytes (Some (pos 1714982400000)) ++ (0x68 ∷ 0x65 ∷ 0x6C ∷ 0x6C ∷ 0x6F ∷ []))) ≡ 0xF628422
 unfolding little_bytes quarter padding scheduled schedule round rounds plus compressed chain sha1 digits value
 salted-id = refl
 
 -- a salt of -2
-pub salt-bytes : salt_bytes (record { given = true; value = negsuc 1 }) ≡ 0xFE ∷ 0xFF ∷ 0xFF ∷ 0xFF ∷ 0xFF ∷ 0xFF ∷ 0xFF ∷ 0xFF ∷ []
+pub salt-bytes : salt_bytes (Some (negsuc 1)) ≡ 0xFE ∷ 0xFF ∷ 0xFF ∷ 0xFF ∷ 0xFF ∷ 0xFF ∷ 0xFF ∷ 0xFF ∷ []
 unfolding little_bytes
 salt-bytes = refl

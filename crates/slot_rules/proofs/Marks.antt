@@ -1,15 +1,14 @@
 -- The marks of the slots: what a turn of each loop over them comes to.
 use Rattle.std.specs.Prelude.{if◌then◌else◌}
 use mathlib.Core.Path.{◌≡◌, refl, sym, ap, ◌∙◌}
-use Prim.Native.Nat.{ℕ, ◌+◌, ◌<◌, ◌≤◌}
+use Prim.Native.Nat.{ℕ, ◌+◌, ◌<◌}
 use native.Mathlib.Omega.{arith}
 use native.Mathlib.Decide.{ℕ_discrete}
 use mathlib.Core.Bool.{Bool, true, false}
 use mathlib.Core.List.{List, []}
-use lib.ListN.{length, get_or, set, drop, drop_of_length-le}
-use borrow.Author.Tests.{lt-ltb}
+use lib.ListN.{length, get_or, set, drop}
 use lib.Seq.{get_or-set_same, get_or-set_other}
-use Rattle.octets.specs.Words.{◌and◌, ◌or◌, some, ◌<?◌}
+use Rattle.octets.specs.Words.{◌and◌, ◌or◌, some}
 use Rattle.octets.proofs.Tests.{and_left, and_right, and-next, and-not-left, or_left, or-next}
 use Rattle.octets.proofs.Lists.{drop-next}
 use Rattle.keys.specs.declared.Key.{Key}
@@ -53,13 +52,9 @@ marks-unlike l marks i j m h k d = go (slot_in l i).is_open refl
     go false u = and-not-left _ _ u
     go true u = and-next _ _ u ∙ key-unlike (slot_in l i).key (slot_in l j) (get_or marks i 0) (get_or marks j 0) (m i h u) (m j k) d
 
--- where the inner loop begins: a free slot is not compared
-pub twice-from : (x : Slot) (l : List Slot) (k j : ℕ) → j ≡ (if x.is_open then k + 1 else 32) → twice x (drop (k + 1) l) ≡ twice x (drop j l)
-twice-from x l k j e = go x.is_open e
-  where
-    go : (b : Bool) → j ≡ (if b then k + 1 else 32) → b and some (has_key x.key) (drop (k + 1) l) ≡ b and some (has_key x.key) (drop j l)
-    go true q = ap (λ (n : ℕ). some (has_key x.key) (drop n l)) (sym q)
-    go false q = refl
+-- a free slot is not compared
+pub twice-free : (x : Slot) (rest : List Slot) → x.is_open ≡ false → twice x rest ≡ false
+twice-free x rest o = and-not-left _ _ o
 
 -- a turn of the inner loop, x being the slot of the outer one
 module _ (x : Slot) (l : List Slot) (j : ℕ) (h : j < length l) where

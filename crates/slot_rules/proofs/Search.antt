@@ -6,8 +6,7 @@ use native.Mathlib.Omega.{arith}
 use mathlib.Core.Bool.{Bool, true, false}
 use mathlib.Core.List.{List, [], ◌∷◌}
 use lib.ListN.{length, get_or, drop, drop_of_length-le}
-use borrow.Author.Tests.{ltb-true}
-use Rattle.octets.specs.Words.{some, ◌<?◌}
+use Rattle.octets.specs.Words.{some}
 use Rattle.octets.proofs.Tests.{if_yes, if_no, and-not-left, and-next, no_true, no_false}
 use Rattle.octets.proofs.Lists.{drop-next}
 use Rattle.keys.specs.declared.Key.{Key}
@@ -67,7 +66,7 @@ none_alike k (x ∷ l) e = go x.is_open refl (none_alike k l)
     go false o r = let c = count_of x l false o in rw (free-unlike k x o) (r (omega (arith, e, c)))
 
 -- their keys are distinct
-lone-distinct : (l : List Slot) → open_count l < 2 → distinct l ≡ true
+pub lone-distinct : (l : List Slot) → open_count l < 2 → distinct l ≡ true
 lone-distinct [] h = refl
 lone-distinct (x ∷ l) h = go x.is_open refl (lone-distinct l)
   where
@@ -75,15 +74,6 @@ lone-distinct (x ∷ l) h = go x.is_open refl (lone-distinct l)
     go true o r = let c = count_of x l true o in
         and-next _ _ (no_false _ (and-next _ _ o ∙ none_alike x.key l (omega (arith, h, c)))) ∙ r (omega (arith, h, c))
     go false o r = let c = count_of x l false o in and-next _ _ (no_false _ (and-not-left _ _ o)) ∙ r (omega (arith, h, c))
-
--- from where pairs are compared on, the rest decides
-pub from-distinct : (l : List Slot) (n k : ℕ) → length l ≡ 32 → n ≡ open_count l → k ≡ (if n <? 2 then 32 else 0) → distinct l ≡ distinct (drop k l)
-from-distinct l n k h c q = go (n <? 2) refl
-  where
-    go : (b : Bool) → (n <? 2) ≡ b → distinct l ≡ distinct (drop k l)
-    go true e = let f = ltb-true n 2 e in
-        lone-distinct l (omega (arith, f, c)) ∙ ap distinct (sym (past l k (omega (arith, h, q ∙ if_yes _ _ _ e))))
-    go false e = ap (λ (i : ℕ). distinct (drop i l)) (sym (q ∙ if_no _ _ _ e))
 
 -- ---- what was found
 

@@ -1,5 +1,5 @@
 -- Document 01, "Streams": 32 rows by key. The rules that the slots of a table keep together (40), and the searches in them.
-use Rattle.std.specs.Prelude.{ℕ, ◌+◌, Bool, true, false, List, [], ◌∷◌, length, get_or, if◌then◌else◌}
+use Rattle.std.specs.Prelude.{ℕ, ◌+◌, Bool, true, List, [], ◌∷◌, length, get_or, Option, Some, None, if◌then◌else◌}
 use Rattle.octets.specs.Words.{◌and◌, no, every, some, ◌=?◌}
 use Rattle.keys.specs.declared.Key.{Key}
 use Rattle.slots.specs.declared.Slot.{Slot}
@@ -44,15 +44,13 @@ slot_in l i = get_or l i past_slot
 
 -- ---- what a pass over the slots finds
 
--- its number, 32 for none
-abbrev pub place_number : Found → ℕ
-place_number (Found.At i) = i
-place_number Found.Nothing = 32
+-- the place, if there is one
+abbrev pub place_of : Found → Option ℕ
+place_of (Found.At i) = Some i
+place_of Found.Nothing = None
 
-abbrev pub broken : Ruled
-broken = record { good = false; found = 32; free = 32; rows = 0 }
-
-unfoldable pub test_of : List Slot → Key → Ruled
+-- what it finds in slots that keep the rules, and nothing in others
+unfoldable pub test_of : List Slot → Key → Option Ruled
 test_of l k =
-    if no (keeps_slots l) then broken
-    else record { good = true; found = place_number (first (has_key k) 0 l); free = place_number (first is_free 0 l); rows = open_count l }
+    if no (keeps_slots l) then None
+    else Some (record { found = place_of (first (has_key k) 0 l); free = place_of (first is_free 0 l); rows = open_count l })

@@ -14,8 +14,8 @@ use Rattle.slots.proofs.Slot.is_alike.Reads as is-alike-reads
 use Rattle.slots.proofs.Slot.for_key.Kinds as for-key-kinds
 use Rattle.slots.proofs.Slot.for_key.Reads as for-key-reads
 
-pub free_one : One 0 free-kinds.ps free-kinds.r free-reads.Post
-free_one κs a x y v w p q = (p ∙ sym q, refl)
+pub free-one : One 0 free-kinds.ps free-kinds.r free-reads.Post
+free-one κs a x y v w p q = (p ∙ sym q, refl)
 
 pub free-free : Free 0 free-kinds.ps free-reads.Pre
 free-free κs a = tt

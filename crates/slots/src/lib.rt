@@ -8,6 +8,7 @@ ghost use Rattle.slots.specs.Slot.{free_slot, keeps_open, keeps_free, has_key, s
 use keys::Key;
 use rows::Row;
 
+// No Option of a key and a row: a free slot that is not all zero can be handed in, and is refused with 40 (`keeps_free`).
 #[derive(Clone, Copy)]
 pub struct Slot {
     pub is_open: bool,
@@ -20,12 +21,10 @@ impl Slot {
     pub fn free() -> Slot
         ensures { result ≡ free_slot }
     {
-        let key = keys::none();
-        let row = Row::none();
         Slot {
             is_open: false,
-            key: key,
-            row: row,
+            key: keys::none(),
+            row: Row::none(),
         }
     }
 
@@ -34,46 +33,29 @@ impl Slot {
     pub fn open_keeps_rules(self) -> bool
         ensures { result ≡ keeps_open self }
     {
-        let key = self.key;
-        if !keys::keeps_rules(key) {
-            return false;
-        }
-        let row = self.row;
-        row.keeps_rules()
+        keys::keeps_rules(self.key) && self.row.keeps_rules()
     }
 
     // Whether a free slot keeps its rules (40).
     pub fn free_keeps_rules(self) -> bool
         ensures { result ≡ keeps_free self }
     {
-        let key = self.key;
-        if !keys::is_none(key) {
-            return false;
-        }
-        let row = self.row;
-        row.is_none()
+        keys::is_none(self.key) && self.row.is_none()
     }
 
     // Whether the slot is open and has the key.
+    #[tactic(auto, unfolding(crate::specs::Slot::has_key))]
     pub fn has_key(self, key: Key) -> bool
         ensures { result ≡ has_key key self }
     {
-        if !self.is_open {
-            return false;
-        }
-        let own = self.key;
-        keys::same(key, own)
+        self.is_open && keys::same(key, self.key)
     }
 
     // Whether the slot is open, and another has its key.
     pub fn is_alike(self, other: Slot) -> bool
         ensures { result ≡ (self.is_open and has_key self.key other) }
     {
-        if !self.is_open {
-            return false;
-        }
-        let key = self.key;
-        other.has_key(key)
+        self.is_open && other.has_key(self.key)
     }
 
     // The slot itself where it is open, else a new row of the key.
@@ -83,11 +65,10 @@ impl Slot {
         if self.is_open {
             return self;
         }
-        let row = Row::new();
         Slot {
             is_open: true,
-            key: key,
-            row: row,
+            key,
+            row: Row::new(),
         }
     }
 }

@@ -22,7 +22,7 @@ use Rattle.rows.proofs.Expected.{expected-accepted-row}
 use Rattle.refusals.specs.Numbers.{still_holding}
 use Rattle.streams.specs.declared.Table.{Table}
 use Rattle.slot_rules.specs.Slots.{Found}
-use Rattle.lookups.specs.declared.Lookup.{Lookup}
+use Rattle.lookups.specs.Lookup.{Lookup}
 use Rattle.streams.specs.Table.{free_slot, has_key, keeps_table, first, slot_at, with_slot}
 use Rattle.streams.specs.Calls.{place, look_up, on_row, offer, take, force, close}
 use Rattle.streams.specs.Meaning.{row_for}

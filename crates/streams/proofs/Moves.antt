@@ -12,7 +12,7 @@ use Rattle.refusals.specs.Numbers.{no_callsign, stream_id_malformed}
 use Rattle.octets.proofs.Tests.{and_right, and-not-right, if_yes}
 use Rattle.octets.proofs.Lists.{every-at}
 use Rattle.keys.specs.declared.Key.{Key}
-use Rattle.keys.specs.declared.Named.{Named}
+use Rattle.keys.specs.Key.{Named}
 use Rattle.keys.specs.Key.{key_of, no_key, keeps_key, named_of}
 use Rattle.keys.proofs.Names.{key-keeps}
 use Rattle.callsigns.specs.Callsign.{callsign}
@@ -26,7 +26,7 @@ use Rattle.rows.proofs.Keeps.{fresh_keeps, offer-keeps-row, take-keeps-row, forc
 use Rattle.rows.proofs.Refusals.{Unmoved, offer-unmoved-row, take-unmoved-row, force-unmoved-row}
 use Rattle.streams.specs.declared.Table.{Table}
 use Rattle.slot_rules.specs.Slots.{Found}
-use Rattle.lookups.specs.declared.Lookup.{Lookup}
+use Rattle.lookups.specs.Lookup.{Lookup}
 use Rattle.streams.specs.Table.{free_slot, is_free, keeps_slot, has_key, first, slot_at, with_slot, past_slot}
 use Rattle.streams.specs.Calls.{place, look_up, on_row, opens, offer_by, offer, take_by, take, force_by, force, close_by, close}
 use Rattle.streams.proofs.Lookups.{Kept, kept, by-lookup}

@@ -1,10 +1,15 @@
 -- Every public function leaves one outcome and asks nothing.
+use Rattle.std.specs.Prelude.{Result, Ok, Err}
 use mathlib.Core.Path.{◌≡◌, refl, sym, ap, ◌∙◌}
+use Prim.Native.Nat.{ℕ}
 use Rattle.octets.specs.Unique.{One, Free}
+use Rattle.refusals.specs.declared.Refusal.{Refusal}
+use Rattle.refusals.specs.Refusals.{number_of}
+use Rattle.refusals.proofs.Told.{one-refusal}
+use Rattle.rows.specs.Answer.{accepted, refused}
 use Rattle.rows.proofs.Unique.{one-accepting, one-giving}
 use Rattle.streams.specs.declared.Served.{Served}
 use Rattle.streams.specs.declared.Taken.{Taken}
-use Rattle.streams.specs.declared.Count.{Count}
 use Rattle.streams.specs.declared.Shown.{Shown}
 use Rattle.streams.specs.Answer.{served_says, taken_says, count_says, shown_says}
 use Rattle.streams.proofs.Table.new.Kinds as new-kinds
@@ -29,14 +34,20 @@ one-served x y e = let a = one-accepting x.answer y.answer (ap (λ o. o.answer) 
 one-taken : (x y : Taken) → taken_says x ≡ taken_says y → x ≡ y
 one-taken x y e = let a = one-giving x.answer y.answer (ap (λ o. o.answer) e) in λ i. record { answer = a i; table = (e i).after }
 
-one-count : (x y : Count) → count_says x ≡ count_says y → x ≡ y
-one-count (Count.Rows m) (Count.Rows n) e = cc
-one-count (Count.Rows m) (Count.Refused n) e = cc
-one-count (Count.Refused m) (Count.Rows n) e = cc
-one-count (Count.Refused m) (Count.Refused n) e = cc
+one-count : (x y : Result ℕ Refusal) → count_says x ≡ count_says y → x ≡ y
+one-count (Ok m) (Ok n) e = let p : m ≡ n = cc in cc
+one-count (Ok m) (Err n) e = cc
+one-count (Err m) (Ok n) e = cc
+one-count (Err m) (Err n) e = let p : number_of m ≡ number_of n = cc in ap (λ (r : Refusal). Err r) (one-refusal m n p)
 
-one-shown : (x y : Shown) → shown_says x ≡ shown_says y → x ≡ y
-one-shown x y e = let a = one-accepting x.answer y.answer (ap (λ o. o.answer) e) in λ i. record { answer = a i; key = (e i).key; row = (e i).row }
+one-shown : (x y : Result Shown Refusal) → shown_says x ≡ shown_says y → x ≡ y
+one-shown (Ok x) (Ok y) e = λ i. Ok (record { key = (e i).key; row = (e i).row })
+one-shown (Ok x) (Err n) e = let p : accepted ≡ refused (number_of n) = ap (λ o. o.answer) e in cc
+one-shown (Err m) (Ok y) e = let p : refused (number_of m) ≡ accepted = ap (λ o. o.answer) e in cc
+one-shown (Err m) (Err n) e =
+    let p : refused (number_of m) ≡ refused (number_of n) = ap (λ o. o.answer) e in
+    let q : number_of m ≡ number_of n = cc in
+    ap (λ (r : Refusal). Err r) (one-refusal m n q)
 
 pub new-one : One 0 new-kinds.ps new-kinds.r new-reads.Post
 new-one κs a x y v w p q = (p ∙ sym q, refl)

@@ -19,7 +19,7 @@ use Rattle.rows.specs.Stream.{fresh}
 use Rattle.rows.specs.Row.{row_of, offer_of}
 use Rattle.streams.specs.declared.Table.{Table}
 use Rattle.slot_rules.specs.Slots.{Found}
-use Rattle.lookups.specs.declared.Lookup.{Lookup}
+use Rattle.lookups.specs.Lookup.{Lookup}
 use Rattle.streams.specs.Table.{is_free, has_key, keeps_table, first}
 use Rattle.streams.specs.Calls.{place, look_up, opens, offer, take_by, take, force_by, force, close_by, close}
 use Rattle.streams.specs.Meaning.{row_for}

@@ -3,7 +3,7 @@ use Rattle.std.specs.Prelude.{ℕ, true, List, if◌then◌else◌}
 use Rattle.octets.specs.Words.{◌and◌, no, ◌<?◌, ◌=?◌}
 use Rattle.refusals.specs.Numbers.{state_broken, stale, no_free_row, no_such_stream, still_holding}
 use Rattle.keys.specs.declared.Key.{Key}
-use Rattle.keys.specs.declared.Named.{Named}
+use Rattle.keys.specs.Key.{Named}
 use Rattle.keys.specs.Key.{named_of, no_key}
 use Rattle.rows.specs.declared.Row.{Row}
 use Rattle.places.specs.declared.Held.{Held}
@@ -11,7 +11,7 @@ use Rattle.rows.specs.Answer.{accepted, refused, Outcome, refuse}
 use Rattle.rows.specs.Stream.{fresh}
 use Rattle.rows.specs.Row.{row_of, no_row, offer_of, take_of, force_of}
 use Rattle.streams.specs.declared.Table.{Table}
-use Rattle.lookups.specs.declared.Lookup.{Lookup}
+use Rattle.lookups.specs.Lookup.{Lookup}
 use Rattle.streams.specs.Answer.{Counted, counted, uncounted, Sight}
 use Rattle.streams.specs.Table.{free_slot, is_free, has_key, keeps_table, Found, first, open_count, slot_at, with_slot}
 

@@ -3,3 +3,4 @@ pub mod Answer
 pub mod Table
 pub mod Calls
 pub mod Meaning
+pub mod Steps

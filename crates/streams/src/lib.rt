@@ -3,16 +3,17 @@
 #![tactic(auto)]
 
 ghost use Rattle.std.specs.Prelude.{◌≡◌};
-ghost use Rattle.rows.specs.Answer.{refused};
-ghost use Rattle.rows.specs.Row.{no_row};
-ghost use Rattle.keys.specs.Key.{no_key};
+ghost use Rattle.rows.specs.Answer.{giving};
+ghost use Rattle.keys.specs.Key.{named_of};
+ghost use Rattle.lookups.specs.Lookup.{known_target, target_says};
 ghost use Rattle.streams.specs.Answer.{served_says, taken_says, count_says, shown_says};
 ghost use Rattle.streams.specs.Table.{empty};
-ghost use Rattle.streams.specs.Calls.{offer, take, force, close, open_rows, row_at};
+ghost use Rattle.streams.specs.Calls.{look_up, offer, take, force, close, open_rows, row_at};
+ghost use Rattle.streams.specs.Steps.{Within, Called, served};
 
 use keys::Key;
-use lookups::Target;
-use rows::{Accepting, Giving, Row};
+use refusals::Refusal;
+use rows::{Given, Row};
 use slots::Slot;
 
 #[derive(Clone, Copy)]
@@ -24,24 +25,17 @@ pub struct Table {
 #[derive(Clone, Copy)]
 pub struct Served {
     pub table: Table,
-    pub answer: Accepting,
+    pub answer: Result<(), Refusal>,
 }
 
 #[derive(Clone, Copy)]
 pub struct Taken {
     pub table: Table,
-    pub answer: Giving,
-}
-
-#[derive(Clone, Copy)]
-pub enum Count {
-    Rows(usize),
-    Refused(u8),
+    pub answer: Result<Option<Given>, Refusal>,
 }
 
 #[derive(Clone, Copy)]
 pub struct Shown {
-    pub answer: Accepting,
     pub key: Key,
     pub row: Row,
 }
@@ -51,8 +45,9 @@ impl Table {
     pub fn new() -> Table
         ensures { result ≡ empty }
     {
-        let x = Slot::free();
-        Table { slots: [x; 32] }
+        Table {
+            slots: [Slot::free(); 32],
+        }
     }
 
     // Offers a message to a stream; an unknown stream is opened.
@@ -67,30 +62,10 @@ impl Table {
     ) -> Served
         ensures { served_says result ≡ offer self originator.now stream_id.now (record { number = number; timeout = timeout; slip = slip }) time }
     {
-        let named = keys::name(originator, stream_id);
-        let key = named.key;
-        let slots = self.slots;
-        let r = slot_rules::test(slots, key);
-        let p = lookups::known_or_free(r.good, named.refusal, r.found, number, r.free);
-        let i = match p {
-            Target::Refused(n) => {
-                return Served {
-                    table: self,
-                    answer: Accepting::Refused(n),
-                };
-            }
-            Target::At(i) => i,
-        };
-        let mut x = self.slots[i].for_key(key);
-        let row = x.row;
-        let o = row.offer(number, timeout, slip, time);
-        let answer = o.answer;
-        let next = o.row;
-        x.row = next;
-        self.slots[i] = x;
+        let answer = self.offer_row(originator, stream_id, number, timeout, slip, time);
         Served {
             table: self,
-            answer: answer,
+            answer,
         }
     }
 
@@ -98,30 +73,10 @@ impl Table {
     pub fn take(mut self, originator: &[u8], stream_id: &[u8], time: u32) -> Taken
         ensures { taken_says result ≡ take self originator.now stream_id.now time }
     {
-        let named = keys::name(originator, stream_id);
-        let key = named.key;
-        let slots = self.slots;
-        let r = slot_rules::test(slots, key);
-        let p = lookups::known(r.good, named.refusal, r.found);
-        let i = match p {
-            Target::Refused(n) => {
-                return Taken {
-                    table: self,
-                    answer: Giving::Refused(n),
-                };
-            }
-            Target::At(i) => i,
-        };
-        let mut x = self.slots[i];
-        let row = x.row;
-        let o = row.take(time);
-        let answer = o.answer;
-        let next = o.row;
-        x.row = next;
-        self.slots[i] = x;
+        let answer = self.on_row(originator, stream_id, |row| row.take(time));
         Taken {
             table: self,
-            answer: answer,
+            answer,
         }
     }
 
@@ -129,30 +84,10 @@ impl Table {
     pub fn force(mut self, originator: &[u8], stream_id: &[u8], time: u32) -> Taken
         ensures { taken_says result ≡ force self originator.now stream_id.now time }
     {
-        let named = keys::name(originator, stream_id);
-        let key = named.key;
-        let slots = self.slots;
-        let r = slot_rules::test(slots, key);
-        let p = lookups::known(r.good, named.refusal, r.found);
-        let i = match p {
-            Target::Refused(n) => {
-                return Taken {
-                    table: self,
-                    answer: Giving::Refused(n),
-                };
-            }
-            Target::At(i) => i,
-        };
-        let mut x = self.slots[i];
-        let row = x.row;
-        let o = row.force(time);
-        let answer = o.answer;
-        let next = o.row;
-        x.row = next;
-        self.slots[i] = x;
+        let answer = self.on_row(originator, stream_id, |row| row.force(time));
         Taken {
             table: self,
-            answer: answer,
+            answer,
         }
     }
 
@@ -160,82 +95,99 @@ impl Table {
     pub fn close(mut self, originator: &[u8], stream_id: &[u8]) -> Served
         ensures { served_says result ≡ close self originator.now stream_id.now }
     {
-        let named = keys::name(originator, stream_id);
-        let key = named.key;
-        let slots = self.slots;
-        let r = slot_rules::test(slots, key);
-        let p = lookups::known(r.good, named.refusal, r.found);
-        let i = match p {
-            Target::Refused(n) => {
-                return Served {
-                    table: self,
-                    answer: Accepting::Refused(n),
-                };
-            }
-            Target::At(i) => i,
-        };
-        let x = self.slots[i];
-        if x.row.count != 0 {
-            return Served {
-                table: self,
-                answer: Accepting::Refused(refusals::STILL_HOLDING),
-            };
-        }
-        self.slots[i] = Slot::free();
+        let answer = self.free_row(originator, stream_id);
         Served {
             table: self,
-            answer: Accepting::Accepted,
+            answer,
         }
     }
 
     // How many rows are open.
-    pub fn open_rows(self) -> Count
+    pub fn open_rows(self) -> Result<usize, Refusal>
         ensures { count_says result ≡ open_rows self }
     {
-        let key = keys::none();
-        let slots = self.slots;
-        let r = slot_rules::test(slots, key);
-        if !r.good {
-            return Count::Refused(refusals::STATE_BROKEN);
+        match slot_rules::test(self.slots, keys::none()) {
+            Some(ruled) => Ok(ruled.rows),
+            None => Err(Refusal::StateBroken),
         }
-        Count::Rows(r.rows)
     }
 
     // Row `number`, 0 to 31, with its key.
-    pub fn row_at(self, number: usize) -> Shown
+    pub fn row_at(self, number: usize) -> Result<Shown, Refusal>
         ensures { shown_says result ≡ row_at self number }
     {
-        let key = keys::none();
-        let slots = self.slots;
-        let r = slot_rules::test(slots, key);
-        if !r.good {
-            return unseen(refusals::STATE_BROKEN);
-        }
-        if number >= 32 {
-            return unseen(refusals::NO_SUCH_STREAM);
-        }
-        let x = self.slots[number];
-        if !x.is_open {
-            return unseen(refusals::NO_SUCH_STREAM);
-        }
-        let key = x.key;
-        let row = x.row;
-        Shown {
-            answer: Accepting::Accepted,
-            key: key,
-            row: row,
+        let Some(_) = slot_rules::test(self.slots, keys::none()) else {
+            return Err(Refusal::StateBroken);
+        };
+        match self.slots.get(number) {
+            Some(x) if x.is_open => Ok(Shown {
+                key: x.key,
+                row: x.row,
+            }),
+            _ => Err(Refusal::NoSuchStream),
         }
     }
-}
 
-fn unseen(n: u8) -> Shown
-    ensures { shown_says result ≡ record { answer = refused n; key = no_key; row = no_row } }
-{
-    let key = keys::none();
-    let row = Row::none();
-    Shown {
-        answer: Accepting::Refused(n),
-        key: key,
-        row: row,
+    // The place of a stream's row.
+    fn find(&self, originator: &[u8], stream_id: &[u8]) -> Result<usize, Refusal>
+        ensures at { target_says result ≡ known_target (look_up self.now (named_of originator.now stream_id.now)) }
+        ensures within { Within result }
+    {
+        let named = keys::name(originator, stream_id);
+        let ruled = slot_rules::test(self.slots, named.unwrap_or(keys::none()));
+        lookups::known(ruled, named.err())
+    }
+
+    // The offer, made on a stream's row, which is a new one where the stream is unknown.
+    fn offer_row(
+        &mut self,
+        originator: &[u8],
+        stream_id: &[u8],
+        number: u32,
+        timeout: u32,
+        slip: u32,
+        time: u32,
+    ) -> Result<(), Refusal>
+        ensures { served self.new result ≡ offer self.old originator.now stream_id.now (record { number = number; timeout = timeout; slip = slip }) time }
+    {
+        let named = keys::name(originator, stream_id);
+        let key = named.unwrap_or(keys::none());
+        let ruled = slot_rules::test(self.slots, key);
+        let i = lookups::known_or_free(ruled, named.err(), number)?;
+        let x = &mut self.slots[i];
+        *x = x.for_key(key);
+        let offered = x.row.offer(number, timeout, slip, time);
+        x.row = offered.row;
+        offered.answer
+    }
+
+    // A row's call, made on a stream's row.
+    fn on_row<F: Fn(Row) -> rows::Taken>(
+        &mut self,
+        originator: &[u8],
+        stream_id: &[u8],
+        call: F,
+    ) -> Result<Option<Given>, Refusal>
+        requires { F.IsAlwaysCallable call }
+        ensures { Called self.old (F.post call) (look_up self.old (named_of originator.now stream_id.now)) (record { answer = giving result; after = self.new }) }
+    {
+        let i = self.find(originator, stream_id)?;
+        let x = &mut self.slots[i];
+        let taken = call(x.row);
+        x.row = taken.row;
+        taken.answer
+    }
+
+    // A stream's row becomes free, where nothing is held.
+    fn free_row(&mut self, originator: &[u8], stream_id: &[u8]) -> Result<(), Refusal>
+        ensures { served self.new result ≡ close self.old originator.now stream_id.now }
+    {
+        let i = self.find(originator, stream_id)?;
+        let x = &mut self.slots[i];
+        if x.row.count != 0 {
+            return Err(Refusal::StillHolding);
+        }
+        *x = Slot::free();
+        Ok(())
     }
 }

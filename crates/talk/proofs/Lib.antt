@@ -1,3 +1,2 @@
 -- What is said is what the definitions say.
-pub mod Turns
 pub mod Unique

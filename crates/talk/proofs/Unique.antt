@@ -1,9 +1,12 @@
 -- Every public function leaves one outcome and asks nothing.
 use mathlib.Core.Path.{◌≡◌, refl, sym, ap, ◌∙◌}
 use Rattle.octets.specs.Unique.{One, Free}
+use Rattle.std.specs.Prelude.{Option, Some, None}
+use Rattle.refusals.specs.declared.Refusal.{Refusal}
+use Rattle.refusals.proofs.Told.{one-refusal, not-0}
 use Rattle.talk.specs.declared.Event.{Event}
 use Rattle.talk.specs.declared.Said.{Said}
-use Rattle.talk.specs.Answer.{Telling, happened, says}
+use Rattle.talk.specs.Answer.{Telling, happened, says, reason_in}
 use Rattle.talk.proofs.keep_rules.Kinds as keep-rules-kinds
 use Rattle.talk.proofs.keep_rules.Reads as keep-rules-reads
 use Rattle.talk.proofs.listening.Kinds as listening-kinds
@@ -18,6 +21,12 @@ use Rattle.talk.proofs.hear_data.Kinds as hear-data-kinds
 use Rattle.talk.proofs.hear_data.Reads as hear-data-reads
 use Rattle.talk.proofs.hear_payload.Kinds as hear-payload-kinds
 use Rattle.talk.proofs.hear_payload.Reads as hear-payload-reads
+
+one-reason : (x y : Option Refusal) → reason_in x ≡ reason_in y → x ≡ y
+one-reason None None e = refl
+one-reason None (Some r) e = absurd (not-0 r (sym e))
+one-reason (Some r) None e = absurd (not-0 r e)
+one-reason (Some r) (Some s) e = ap {B = Option Refusal} (λ (t : Refusal). Some t) (one-refusal r s e)
 
 -- what an event says is said by that event only
 pub one-event : (x y : Event) → happened x ≡ happened y → x ≡ y
@@ -36,7 +45,7 @@ one-event (Event.Message t) (Event.End u) e = cc
 one-event (Event.End t) Event.Nothing e = cc
 one-event (Event.End t) (Event.Offer u) e = cc
 one-event (Event.End t) (Event.Message u) e = cc
-one-event (Event.End t) (Event.End u) e = let r : t.reason ≡ u.reason = cc in λ i. Event.End (record { reason = r i })
+one-event (Event.End t) (Event.End u) e = let r = one-reason t.reason u.reason (let n : reason_in t.reason ≡ reason_in u.reason = cc in n) in λ i. Event.End (record { reason = r i })
 
 pub one-said : (x y : Said) → says x ≡ says y → x ≡ y
 one-said x y e =

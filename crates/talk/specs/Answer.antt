@@ -1,5 +1,7 @@
 -- What a step says, in document 01's words: what happened, and the values that it carries, for each case of the enum `Event`.
-use Rattle.std.specs.Prelude.{ℕ}
+use Rattle.std.specs.Prelude.{ℕ, Option, Some, None}
+use Rattle.refusals.specs.declared.Refusal.{Refusal}
+use Rattle.refusals.specs.Refusals.{number_of}
 use Rattle.line.specs.declared.Line.{Line}
 use Rattle.talk.specs.declared.Terms.{Terms}
 use Rattle.talk.specs.declared.Event.{Event}
@@ -13,11 +15,16 @@ pub data Happened : Type 0 where
   message : Terms → Happened
   ended : (reason : ℕ) → Happened
 
+-- the number of a reason; 0 where there is none
+abbrev pub reason_in : Option Refusal → ℕ
+reason_in None = 0
+reason_in (Some r) = number_of r
+
 abbrev pub happened : Event → Happened
 happened Event.Nothing = nothing
 happened (Event.Offer t) = offer t
 happened (Event.Message t) = message t
-happened (Event.End e) = ended e.reason
+happened (Event.End e) = ended (reason_in e.reason)
 
 -- what happened, beside it the fields of the line where it is an offer
 pub record Happening : Type 0 where

@@ -1,5 +1,5 @@
 -- Document 01, "The receiving session": the states that a session can be in.
-use Rattle.std.specs.Prelude.{ℕ, Bool, false, List, replicate, take, pos}
+use Rattle.std.specs.Prelude.{ℕ, Bool, List, replicate, take, None}
 use Rattle.octets.specs.Words.{◌and◌, ◌≤?◌}
 use Rattle.refusals.specs.Numbers.{longest_payload}
 use Rattle.field_rules.specs.Rules.{id_in}
@@ -12,10 +12,10 @@ use Rattle.talk.specs.declared.Session.{Session}
 
 -- the numbers of an offer: its id, its salt and the payload's length
 abbrev pub terms_of : Line → Terms
-terms_of m = record { id = m.fields.id; has_salt = m.fields.has_salt; salt = m.fields.salt; len = m.len }
+terms_of m = record { id = m.fields.id; salt = m.fields.salt; len = m.len }
 
 abbrev pub no_terms : Terms
-no_terms = record { id = 0; has_salt = false; salt = pos 0; len = 0 }
+no_terms = record { id = 0; salt = None; len = 0 }
 
 -- an id is a number of 28 bits; no payload is longer than 4,096 bytes
 unfoldable pub keeps_terms : Terms → Bool
@@ -23,7 +23,7 @@ keeps_terms t = id_in t.id and t.len ≤? longest_payload
 
 -- the running digest where no byte of the payload was received: the salt, if there is one
 abbrev pub salted : Terms → Sha1
-salted t = fed_all fresh (salt_bytes (record { given = t.has_salt; value = t.salt }))
+salted t = fed_all fresh (salt_bytes t.salt)
 
 -- the bytes of a line so far
 abbrev pub line_so_far : Session → List ℕ

@@ -12,6 +12,7 @@ mod lines;
 mod states;
 
 use line::Line;
+use refusals::Refusal;
 use replies::Reply;
 use sha1_digest::Sha1;
 
@@ -19,15 +20,14 @@ use sha1_digest::Sha1;
 #[derive(Clone, Copy)]
 pub struct Terms {
     pub id: u32,
-    pub has_salt: bool,
-    pub salt: i64,
+    pub salt: Option<i64>,
     pub len: u32,
 }
 
-// Why a session ended: 0 after `bye`, 1 to 4 from a line, else 1.
+// Why a session ended: no reason after `bye`, 1 to 4 from a line, else 1.
 #[derive(Clone, Copy)]
 pub struct Ending {
-    pub reason: u8,
+    pub reason: Option<Refusal>,
 }
 
 // What happened.
@@ -41,6 +41,7 @@ pub enum Event {
 
 // Mode 0: between messages. 1: an offer waits for its data line. 2: its payload comes. 3: closed. The line so far is the first `line_len`
 // bytes of `line`, zero past them; `got` bytes of the payload have come, and `hash` is their running digest.
+// A number for the mode: a host hands sessions in, and keeps_session (40) speaks of modes above 3.
 #[derive(Clone, Copy)]
 pub struct Session {
     pub mode: u8,
@@ -84,37 +85,33 @@ pub fn closed() -> Session
 }
 
 // Whether an offer may have these numbers.
+#[tactic(auto, unfolding(crate::specs::Sessions::keeps_terms))]
 pub fn keep_rules(t: Terms) -> bool
     ensures { result ≡ keeps_terms t }
 {
-    if !field_rules::id_rule(t.id) {
-        return false;
-    }
-    t.len as usize <= refusals::LONGEST_PAYLOAD
+    field_rules::id_rule(t.id) && t.len as usize <= refusals::LONGEST_PAYLOAD
 }
 
 // The line of no offer.
+#[tactic(auto, unfolding(line::specs::Reading::blank_line))]
 pub fn no_line() -> Line
     ensures { result ≡ blank_line }
 {
-    let fields = envelope::blank();
-    Line { len: 0, fields }
+    Line {
+        len: 0,
+        fields: envelope::blank(),
+    }
 }
 
 // What is due is said; the reply stands at the front of a lent buffer.
 fn say(due: Due, text: &[u8], reply: &mut [u8]) -> Said
     ensures { (says result ≡ told_in (turn_in text.now due) reply.old) × (reply.new ≡ placed (turn_in text.now due).reply 0 reply.old) }
 {
-    let what = due.reply;
-    let event = due.event;
-    let line = due.line;
-    let session = due.session;
-    let written = replies::say(what, text, reply);
     Said {
-        written,
-        event,
-        line,
-        session,
+        written: replies::say(due.reply, text, reply),
+        event: due.event,
+        line: due.line,
+        session: due.session,
     }
 }
 
@@ -122,22 +119,19 @@ fn say(due: Due, text: &[u8], reply: &mut [u8]) -> Said
 pub fn hear_line(text: &[u8], reply: &mut [u8]) -> Said
     ensures { (says result ≡ told_in (heard text.now) reply.old) × (reply.new ≡ placed (heard text.now).reply 0 reply.old) }
 {
-    let due = lines::hear_line(text);
-    say(due, text, reply)
+    say(lines::hear_line(text), text, reply)
 }
 
 // The line after `send`.
 pub fn hear_data(terms: Terms, text: &[u8], reply: &mut [u8]) -> Said
     ensures { (says result ≡ told_in (data_heard terms text.now) reply.old) × (reply.new ≡ placed (data_heard terms text.now).reply 0 reply.old) }
 {
-    let due = lines::hear_data(terms, text);
-    say(due, text, reply)
+    say(lines::hear_data(terms, text), text, reply)
 }
 
 // A whole payload, by its digest.
 pub fn hear_payload(terms: Terms, hash: Sha1, reply: &mut [u8]) -> Said
     ensures { (says result ≡ told_in (completed terms hash) reply.old) × (reply.new ≡ placed (completed terms hash).reply 0 reply.old) }
 {
-    let due = lines::complete(terms, hash);
-    say(due, b"", reply)
+    say(lines::complete(terms, hash), b"", reply)
 }

@@ -7,29 +7,28 @@ ghost use Rattle.talk.specs.Sessions.{terms_of, listening, promised, closed};
 ghost use Rattle.talk.specs.Talk.{Completes, offered, data_heard, heard, reply_due, turn_in};
 
 use crate::{Due, Ending, Event, Session, Terms, states};
-use line::{Line, LineReading};
+use line::Line;
+use refusals::Refusal;
 use replies::Reply;
-use sha1_digest::{Salt, Sha1};
+use sha1_digest::Sha1;
 
 // A reply, what happened, and the session after it, with no line's fields.
 fn plain(reply: Reply, event: Event, session: Session) -> Due
     ensures { result ≡ reply_due reply event session }
 {
-    let line = crate::no_line();
     Due {
         reply,
         event,
-        line,
+        line: crate::no_line(),
         session,
     }
 }
 
 // A reply, and the session is closed for a reason.
-fn ends(reply: Reply, reason: u8) -> Due
+fn ends(reply: Reply, reason: Option<Refusal>) -> Due
     ensures { result ≡ reply_due reply (Event.End (record { reason = reason })) closed }
 {
-    let ending = Ending { reason };
-    plain(reply, Event::End(ending), crate::closed())
+    plain(reply, Event::End(Ending { reason }), crate::closed())
 }
 
 // A reply, and the next line is waited for.
@@ -40,6 +39,7 @@ fn goes_on(reply: Reply) -> Due
 }
 
 // A payload that is there as a whole, by its digest.
+#[tactic(auto, unfolding(crate::specs::Talk::completed, replies::specs::Replies::reply_text))]
 pub(crate) fn complete(terms: Terms, hash: Sha1) -> Due
     ensures { Completes result terms hash }
 {
@@ -56,47 +56,40 @@ fn promise(line: Line) -> Due
 {
     let terms = Terms {
         id: line.fields.id,
-        has_salt: line.fields.has_salt,
         salt: line.fields.salt,
         len: line.len,
     };
-    let session = states::entered(1, terms, Sha1::new());
     Due {
         reply: Reply::Send(terms.id),
         event: Event::Offer(terms),
         line,
-        session,
+        session: states::entered(1, terms, Sha1::new()),
     }
 }
 
 // An `ihave` line: a valid one is promised, an invalid one ends the session for its own reason.
+#[tactic(auto, unfolding(replies::specs::Replies::reply_text))]
 fn hear_offer(s: &[u8]) -> Due
     ensures { turn_in s.now result ≡ offered s.now (read_of s.now).reading (read_of s.now).line }
 {
-    let a = line::read_line(s);
-    let line = a.line;
-    let reading = a.reading;
-    match reading {
-        LineReading::Refused(n) => ends(Reply::ErrorToken, n),
-        LineReading::Read => promise(line),
+    match line::read_line(s) {
+        Ok(line) => promise(line),
+        Err(r) => ends(Reply::ErrorToken, Some(r)),
     }
 }
 
 // The line after `send`.
-#[tactic(auto, using(crate::proofs::Turns::whole_none))]
+#[tactic(auto, unfolding(crate::specs::Talk::data_heard, replies::specs::Replies::reply_text))]
 pub(crate) fn hear_data(terms: Terms, s: &[u8]) -> Due
     ensures { turn_in s.now result ≡ data_heard terms s.now }
 {
     if !crate::keep_rules(terms) {
-        return ends(Reply::Silence, 1);
+        return ends(Reply::Silence, Some(Refusal::LineMalformed));
     }
     if !phrases::is_data(terms.id, s) {
-        return ends(Reply::Silence, 1);
+        return ends(Reply::Silence, Some(Refusal::LineMalformed));
     }
-    let hash = Sha1::salted(Salt {
-        given: terms.has_salt,
-        value: terms.salt,
-    });
+    let hash = Sha1::salted(terms.salt);
     if terms.len == 0 {
         return complete(terms, hash);
     }
@@ -108,14 +101,14 @@ pub(crate) fn hear_data(terms: Terms, s: &[u8]) -> Due
 }
 
 // A line between messages, by its kind.
+#[tactic(auto, unfolding(crate::specs::Talk::heard, replies::specs::Replies::reply_text))]
 pub(crate) fn hear_line(s: &[u8]) -> Due
     ensures { turn_in s.now result ≡ heard s.now }
 {
-    let k = phrases::kind_of(s);
-    match k {
+    match phrases::kind_of(s) {
         phrases::Kind::Ihave => hear_offer(s),
-        phrases::Kind::Data => ends(Reply::Error, 1),
-        phrases::Kind::Leave => ends(Reply::Bye, 0),
+        phrases::Kind::Data => ends(Reply::Error, Some(Refusal::LineMalformed)),
+        phrases::Kind::Leave => ends(Reply::Bye, None),
         phrases::Kind::Ask => goes_on(Reply::Help),
         phrases::Kind::Other => goes_on(Reply::Eh),
     }

@@ -10,8 +10,7 @@ pub(crate) fn no_terms() -> Terms
 {
     Terms {
         id: 0,
-        has_salt: false,
-        salt: 0,
+        salt: None,
         len: 0,
     }
 }

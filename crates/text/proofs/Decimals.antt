@@ -1,5 +1,5 @@
 -- Decimals: what is written is read back as the number, for every limit; what is read and written again is the same bytes.
-use Rattle.std.specs.Prelude.{if◌then◌else◌}
+use Rattle.std.specs.Prelude.{Some, if◌then◌else◌}
 use Prim.Native.Nat.{ℕ, zero, suc, ◌+◌, ◌*◌, ◌/◌, ◌%◌, ◌^◌, ◌≤◌, ◌<◌}
 use mathlib.Core.Path.{◌≡◌, refl, ap, sym, ◌∙◌}
 use mathlib.Core.Bool.{Bool, true, false}
@@ -12,14 +12,11 @@ use lib.ListN.{length, get_or, drop, get_or-append}
 use lib.IntN.{ℤ, pos, negsuc, neg_ℤ}
 use mir.Syntax.{w64}
 use mir.Val.{SFits}
-use Rattle.octets.specs.Words.{◌and◌, no, ◌<?◌, ◌≤?◌, ◌=?◌, every}
-use Rattle.octets.proofs.Tests.{if_yes, if_no, true-not-false, and_left, and_right, and_both, and-not-left, and-not-right, and-next, no_false}
+use Rattle.octets.specs.Words.{◌and◌, no, ◌<?◌, ◌=?◌, every}
+use Rattle.octets.proofs.Tests.{if_yes, true-not-false, and_left, and_right, and_both, and-not-right, and-next, no_false}
 use Rattle.octets.proofs.Lists.{every-at}
 use Rattle.text.specs.Digits.{digit, worth, is_digit, value, digits}
 use Rattle.text.specs.Decimal.{leading_zero, begins, is_decimal, number, is_number, number_of, count_in, count, decimal, has_minus, is_signed, signed, signed_of, signed_decimal}
-use Rattle.text.specs.Steps.{spelled}
-use Rattle.text.specs.declared.Number.TheVariants as unsigned
-use Rattle.text.specs.declared.Signed.TheVariants as whole
 use Rattle.text.proofs.Numerals.{digit-worth, value-below, length_digits, all_digits, value-digits, digits_value}
 
 -- ---- how many digits
@@ -113,8 +110,8 @@ number_is : (limit v : ℕ) → v ≤ limit → is_number limit (decimal v) ≡ 
 number_is limit v h = and_both _ _ (decimal-is v) (rw (decimal-back v) (le-leb v limit h))
 
 -- reading what was written gives the number, for every limit that it is not above
-pub number-back : (limit v : ℕ) → v ≤ limit → number_of limit (decimal v) ≡ unsigned.Is v
-number-back limit v h = if_yes _ _ _ (number_is limit v h) ∙ ap unsigned.Is (decimal-back v)
+pub number-back : (limit v : ℕ) → v ≤ limit → number_of limit (decimal v) ≡ Some v
+number-back limit v h = if_yes _ _ _ (number_is limit v h) ∙ ap Some (decimal-back v)
 
 -- ---- what is read is written so
 
@@ -151,23 +148,6 @@ count-number (b ∷ c ∷ s) e =
 pub number-forth : (s : List ℕ) → is_decimal s ≡ true → decimal (number s) ≡ s
 number-forth s e = rw (count-number s e) (digits_value 10 (omega arith) (omega arith) s (decimal-digits s e))
 
--- ---- what the code goes by
-
-pub number_of-not : (limit : ℕ) (s : List ℕ) → begins s ≡ false → number_of limit s ≡ unsigned.Malformed
-number_of-not limit s e = if_no _ _ _ (and-not-left _ _ (and-not-left _ _ e))
-
-pub number_of-spelled : (limit : ℕ) (s : List ℕ) → begins s ≡ true → number_of limit s ≡ spelled 10 limit s
-number_of-spelled limit s e = ap (λ (t : Bool). if t and number s ≤? limit then unsigned.Is (number s) else unsigned.Malformed) (and-next _ _ e)
-
-pub begins-empty : (s : List ℕ) → length s ≡ 0 → begins s ≡ false
-begins-empty s e = and-not-left _ _ (le-ltb 0 (length s) (omega arith))
-
-pub begins-one : (s : List ℕ) → length s ≡ 1 → begins s ≡ true
-begins-one s e = and_both _ _ (lt-ltb 0 (length s) (omega arith)) (no_false _ (and-not-left _ _ (le-ltb 1 (length s) (omega arith))))
-
-pub begins-more : (s : List ℕ) (t : Bool) → 1 < length s → (get_or s 0 0 =? 0x30) ≡ t → begins s ≡ no t
-begins-more s t h e = and-next _ _ (lt-ltb 0 (length s) (omega arith)) ∙ ap no (and-next _ _ (lt-ltb 1 (length s) h) ∙ e)
-
 -- ---- signed
 
 no_minus : (s : List ℕ) → is_decimal s ≡ true → has_minus s ≡ false
@@ -177,7 +157,7 @@ no_minus s e = ne_eqb (get_or s 0 0) 0x2D (λ z. true-not-false (is_digit 10 (ge
     h = ltb-true 0 (length s) (and_left _ _ (and_left (begins s) _ e))
 
 -- reading what was written gives the number, for every number of 64 bits
-pub signed_back : (z : ℤ) → SFits w64 z → signed_of (signed_decimal z) ≡ whole.Is z
+pub signed_back : (z : ℤ) → SFits w64 z → signed_of (signed_decimal z) ≡ Some z
 signed_back (pos m) f =
     let h : m ≤ 9223372036854775807 = omega (arith, f.sfits) in
     rw (no_minus (decimal m) (decimal-is m)) (if_yes _ _ _ (number_is 9223372036854775807 m h) ∙ rw (decimal-back m))

@@ -1,5 +1,5 @@
 -- Digits, once over the base and the width: what is written spells the number, and what spells a number is what is written.
-use Rattle.std.specs.Prelude.{if◌then◌else◌}
+use Rattle.std.specs.Prelude.{Some, None, if◌then◌else◌}
 use Prim.Native.Nat.{ℕ, zero, suc, ◌+◌, ◌-◌, ◌*◌, ◌/◌, ◌%◌, ◌^◌, ◌≤◌, ◌<◌}
 use mathlib.Core.Path.{◌≡◌, refl, ap, sym, ◌∙◌}
 use mathlib.Core.Bool.{Bool, true, false}
@@ -14,8 +14,7 @@ use Rattle.octets.proofs.Tests.{if_yes, if_no, and_left, and_right, and_both, an
 use Rattle.octets.specs.Bytes.{placed}
 use Rattle.octets.proofs.Lists.{drop-next, placed-in, placed-none}
 use Rattle.text.specs.Digits.{digit, worth, is_digit, value, digits}
-use Rattle.text.specs.Steps.{spelled}
-use Rattle.text.specs.declared.Number.TheVariants.{Is, Malformed}
+use Rattle.text.specs.Steps.{worth_in, spelled}
 
 -- ---- one digit
 
@@ -150,9 +149,17 @@ in-room base limit n h k = (le-div_iff_mul-le {k = base} {x = n} {y = limit} h).
 pub no_room : (base limit n : ℕ) → 0 < base → limit / base < n → limit < n * base
 no_room base limit n h k = (div-lt_iff_lt-mul {k = base} {x = limit} {y = n} h).0 k
 
+-- what a digit is worth
+pub worth_in-some : (base b d : ℕ) → worth_in base b ≡ Some d → (is_digit base b ≡ true) × (worth b ≡ d)
+worth_in-some base b d e = go (is_digit base b) refl e
+  where
+    go : (t : Bool) → is_digit base b ≡ t → (if t then Some (worth b) else None) ≡ Some d → (is_digit base b ≡ true) × (worth b ≡ d)
+    go true f g = (f, cc)
+    go false f g = cc
+
 -- what is past the limit stays past it
 pub spelled-past : (base limit n : ℕ) (s : List ℕ) (i : ℕ) → 0 < base → i < length s → value base s ≡ on base n (drop i s) → limit < n * base + worth (get_or s i 0)
-    → spelled base limit s ≡ Malformed
+    → spelled base limit s ≡ None
 spelled-past base limit n s i h l e k =
     let m = n * base + worth (get_or s i 0) in
     let t = drop (i + 1) s in
@@ -160,16 +167,16 @@ spelled-past base limit n s i h l e k =
     let f : value base s ≡ on base m t = e ∙ on-at base n s i l in
     if_no _ _ _ (and-not-right (every (is_digit base) s) _ (lt-leb (value base s) limit (omega arith)))
 
-pub spelled-not : (base limit : ℕ) (s : List ℕ) → every (is_digit base) s ≡ false → spelled base limit s ≡ Malformed
+pub spelled-not : (base limit : ℕ) (s : List ℕ) → every (is_digit base) s ≡ false → spelled base limit s ≡ None
 spelled-not base limit s e = if_no _ _ _ (and-not-left _ _ e)
 
-pub spelled_is : (base limit n : ℕ) (s : List ℕ) → every (is_digit base) s ≡ true → value base s ≡ n → n ≤ limit → spelled base limit s ≡ Is n
-spelled_is base limit n s e f h = if_yes _ _ _ (and_both _ _ e (rw f (le-leb n limit h))) ∙ ap Is f
+pub spelled_is : (base limit n : ℕ) (s : List ℕ) → every (is_digit base) s ≡ true → value base s ≡ n → n ≤ limit → spelled base limit s ≡ Some n
+spelled_is base limit n s e f h = if_yes _ _ _ (and_both _ _ e (rw f (le-leb n limit h))) ∙ ap Some f
 
-pub spelled-most : (base limit : ℕ) (s : List ℕ) (v : ℕ) → spelled base limit s ≡ Is v → v ≤ limit
+pub spelled-most : (base limit : ℕ) (s : List ℕ) (v : ℕ) → spelled base limit s ≡ Some v → v ≤ limit
 spelled-most base limit s v e = go (every (is_digit base) s and value base s ≤? limit) refl e
   where
-    go : (t : Bool) → (every (is_digit base) s and value base s ≤? limit) ≡ t → (if t then Is (value base s) else Malformed) ≡ Is v → v ≤ limit
+    go : (t : Bool) → (every (is_digit base) s and value base s ≤? limit) ≡ t → (if t then Some (value base s) else None) ≡ Some v → v ≤ limit
     go true f g = let z : value base s ≡ v = cc in omega (arith, leb-true (value base s) limit (and_right (every (is_digit base) s) _ f))
     go false f g = let z : ◌≡◌ {A = ℕ} 0 1 = cc in absurd (omega arith)
 

@@ -1,11 +1,7 @@
 -- Document 01, "Names and fields", decimals: no leading zero, no plus sign; unsigned up to a limit, and signed with 64 bits, where `-0` is malformed.
-use Rattle.std.specs.Prelude.{ℕ, zero, suc, ◌+◌, ◌/◌, Bool, true, false, List, ◌∷◌, length, get_or, drop, ℤ, pos, negsuc, neg_ℤ, if◌then◌else◌}
+use Rattle.std.specs.Prelude.{ℕ, zero, suc, ◌+◌, ◌/◌, Bool, true, false, List, ◌∷◌, length, get_or, drop, ℤ, pos, negsuc, neg_ℤ, Option, Some, None, if◌then◌else◌}
 use Rattle.octets.specs.Words.{◌and◌, no, ◌<?◌, ◌≤?◌, ◌=?◌, every}
 use Rattle.text.specs.Digits.{is_digit, value, digits}
-use Rattle.text.specs.declared.Number.{Number}
-use Rattle.text.specs.declared.Number.TheVariants as unsigned
-use Rattle.text.specs.declared.Signed.{Signed}
-use Rattle.text.specs.declared.Signed.TheVariants as whole
 
 -- a `0` before other bytes
 abbrev pub leading_zero : List ℕ → Bool
@@ -26,8 +22,8 @@ abbrev pub is_number : ℕ → List ℕ → Bool
 is_number limit s = is_decimal s and number s ≤? limit
 
 -- the answer of reading a number from 0 to the limit
-abbrev pub number_of : ℕ → List ℕ → Number
-number_of limit s = if is_number limit s then unsigned.Is (number s) else unsigned.Malformed
+abbrev pub number_of : ℕ → List ℕ → Option ℕ
+number_of limit s = if is_number limit s then Some (number s) else None
 
 -- how many digits v has: one where it is small, below ten, else one more than its tenth; the turns bound the definition, and v of them are enough
 unfoldable pub count_in : ℕ → Bool → ℕ → ℕ
@@ -56,8 +52,8 @@ abbrev pub signed : List ℕ → ℤ
 signed s = if has_minus s then neg_ℤ (pos (number (drop 1 s))) else pos (number s)
 
 -- the answer of reading a signed number
-abbrev pub signed_of : List ℕ → Signed
-signed_of s = if is_signed s then whole.Is (signed s) else whole.Malformed
+abbrev pub signed_of : List ℕ → Option ℤ
+signed_of s = if is_signed s then Some (signed s) else None
 
 -- a signed number in decimal: a minus before the digits of a negative one
 abbrev pub signed_decimal : ℤ → List ℕ

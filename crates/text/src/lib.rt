@@ -9,40 +9,12 @@ ghost use Rattle.text.specs.Hex.{id_of, chk_of, hex_digits};
 mod decimal;
 mod digits;
 
-// An unsigned decimal, read.
-#[derive(Clone, Copy)]
-pub enum Number {
-    Is(u64),
-    Malformed,
-}
-
-// A signed decimal, read.
-#[derive(Clone, Copy)]
-pub enum Signed {
-    Is(i64),
-    Malformed,
-}
-
-// An id, read: a number below 2 ^ 28.
-#[derive(Clone, Copy)]
-pub enum Id {
-    Is(u32),
-    Malformed,
-}
-
-// A `chk`, read.
-#[derive(Clone, Copy)]
-pub enum Chk {
-    Is(u16),
-    Malformed,
-}
-
 // A number from 0 to the limit.
-pub fn read_number(s: &[u8], limit: u64) -> Number
+pub fn read_number(s: &[u8], limit: u64) -> Option<u64>
     ensures { result ≡ number_of limit s.now }
 {
     if !decimal::starts(s) {
-        return Number::Malformed;
+        return None;
     }
     digits::read(s, 10, limit)
 }
@@ -54,7 +26,7 @@ pub fn number_size(v: u64) -> usize
     let mut n: usize = 1;
     let mut left = v;
     while left > 9 {
-        left = left / 10;
+        left /= 10;
         n += 1;
     }
     n
@@ -69,36 +41,28 @@ pub fn write_number(v: u64, out: &mut [u8], at: usize) -> bool
 }
 
 // A number from -9223372036854775808 to 9223372036854775807.
-pub fn read_signed(s: &[u8]) -> Signed
+pub fn read_signed(s: &[u8]) -> Option<i64>
     ensures { result ≡ signed_of s.now }
 {
-    if s.len() == 0 {
-        return Signed::Malformed;
+    if let [b'-', digits @ ..] = s {
+        return decimal::negative(read_number(digits, 9223372036854775808)?);
     }
-    if s[0] == 0x2D {
-        let n = read_number(&s[1..], 9223372036854775808);
-        return decimal::negative_of(n);
-    }
-    let n = read_number(s, 9223372036854775807);
-    decimal::positive_of(n)
+    Some(read_number(s, 9223372036854775807)? as i64)
 }
 
 // How many bytes `write_signed` writes.
 pub fn signed_size(v: i64) -> usize
     ensures { result ≡ length (signed_decimal v) }
 {
-    let n = number_size(decimal::magnitude(v));
-    if v >= 0 {
-        return n;
-    }
-    n + 1
+    let n = number_size(v.unsigned_abs());
+    if v < 0 { n + 1 } else { n }
 }
 
 // A signed number's decimal at the place `at` of a lent buffer; where it does not fit, no byte changes and the answer is false.
 pub fn write_signed(v: i64, out: &mut [u8], at: usize) -> bool
     ensures { (result ≡ fits (signed_decimal v) at out.old) × (out.new ≡ placed (signed_decimal v) at out.old) }
 {
-    let m = decimal::magnitude(v);
+    let m = v.unsigned_abs();
     if v >= 0 {
         return write_number(m, out, at);
     }
@@ -109,48 +73,40 @@ pub fn write_signed(v: i64, out: &mut [u8], at: usize) -> bool
     if out.len() - at <= n {
         return false;
     }
-    out[at] = 0x2D;
+    out[at] = b'-';
     digits::write(m, 10, n, out, at + 1)
 }
 
 // An id: 7 of `0-9a-f`.
-pub fn read_id(s: &[u8]) -> Id
+pub fn read_id(s: &[u8]) -> Option<u32>
     ensures { result ≡ id_of s.now }
 {
     if s.len() != 7 {
-        return Id::Malformed;
+        return None;
     }
-    let n = digits::read(s, 16, 0xFFFFFFF);
-    match n {
-        Number::Is(v) => Id::Is(v as u32),
-        Number::Malformed => Id::Malformed,
-    }
+    Some(digits::read(s, 16, 0xFFFFFFF)? as u32)
 }
 
 // The low 28 bits of `id` at the place `at` of a lent buffer; where they do not fit, no byte changes and the answer is false.
 pub fn write_id(id: u32, out: &mut [u8], at: usize) -> bool
     ensures { (result ≡ fits (hex_digits 7 id) at out.old) × (out.new ≡ placed (hex_digits 7 id) at out.old) }
 {
-    digits::write(id as u64, 16, 7, out, at)
+    digits::write(u64::from(id), 16, 7, out, at)
 }
 
 // A `chk`: four of `0-9a-f`.
-pub fn read_chk(s: &[u8]) -> Chk
+pub fn read_chk(s: &[u8]) -> Option<u16>
     ensures { result ≡ chk_of s.now }
 {
     if s.len() != 4 {
-        return Chk::Malformed;
+        return None;
     }
-    let n = digits::read(s, 16, 0xFFFF);
-    match n {
-        Number::Is(v) => Chk::Is(v as u16),
-        Number::Malformed => Chk::Malformed,
-    }
+    Some(digits::read(s, 16, 0xFFFF)? as u16)
 }
 
 // A `chk` at the place `at` of a lent buffer; where it does not fit, no byte changes and the answer is false.
 pub fn write_chk(chk: u16, out: &mut [u8], at: usize) -> bool
     ensures { (result ≡ fits (hex_digits 4 chk) at out.old) × (out.new ≡ placed (hex_digits 4 chk) at out.old) }
 {
-    digits::write(chk as u64, 16, 4, out, at)
+    digits::write(u64::from(chk), 16, 4, out, at)
 }

@@ -1,8 +1,7 @@
 -- A key that is not there has no value.
-use Rattle.std.specs.Prelude.{if◌then◌else◌}
 use Prim.Native.Nat.{ℕ}
-use mathlib.Core.Path.{◌≡◌, refl, sym, ◌∙◌}
-use mathlib.Core.Bool.{Bool, true, false}
+use mathlib.Core.Path.{◌≡◌, refl, ◌∙◌}
+use mathlib.Core.Bool.{false}
 use mathlib.Core.List.{List, [], ◌∷◌}
 use Rattle.octets.specs.Bytes.{same}
 use Rattle.octets.proofs.Tests.{if_no, or_no}
@@ -14,11 +13,3 @@ value-missing k [] e = refl
 value-missing k (t ∷ ts) e =
     let f = or_no (same k t.key) (present k ts) e in
     if_no (same k t.key) t.value (value k ts) f.0 ∙ value-missing k ts f.1
-
--- so the value where the key is there, and else nothing, is the value
-pub value-if : (k : List ℕ) (ts : List Token) → (if present k ts then value k ts else []) ≡ value k ts
-value-if k ts = go (present k ts) refl
-  where
-    go : (b : Bool) → present k ts ≡ b → (if b then value k ts else []) ≡ value k ts
-    go true e = refl
-    go false e = sym (value-missing k ts e)

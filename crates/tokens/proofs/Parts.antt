@@ -1,69 +1,67 @@
 -- A text cut at a byte: what stands before it and behind it are parts of the text.
-use Rattle.std.specs.Prelude.{if◌then◌else◌}
-use Prim.Native.Nat.{ℕ, suc, ◌+◌, ◌-◌, ◌≤◌, ◌<◌}
+use Rattle.std.specs.Prelude.{if◌then◌else◌, ◌+◌, not}
+use Rattle.std.specs.List.{position_or_len}
+use Rattle.std.proofs.lemmas.List.Sums.{prefix_len-le-length}
+use Rattle.std.proofs.lemmas.List.Folds.{length-prefix_len}
+use Prim.Native.Nat.{ℕ, suc, ◌-◌, ◌≤◌}
 use mathlib.Core.Path.{◌≡◌, refl, ap, sym, ◌∙◌}
 use mathlib.Core.Bool.{Bool, true, false}
 use mathlib.Core.List.{List, [], ◌∷◌}
 use native.Mathlib.Omega.{arith}
 use native.Mathlib.Numerals.{add-one}
-use lib.ListN.{length, get_or, take, drop, length-drop, drop_of_length-le}
+use lib.ListN.{length, take, drop, length-drop}
 use lib.Seq.{take_all}
 use lib.Dec.{leb-suc-suc}
-use borrow.Author.Tests.{lt-ltb, eq-eqb, ne_eqb}
+use borrow.Author.Tests.{lt-ltb}
 use Rattle.octets.specs.Words.{◌or◌, ◌<?◌, ◌=?◌}
-use Rattle.octets.proofs.Lists.{drop-next}
-use Rattle.octets.proofs.Tests.{if_yes, if_no}
 use Rattle.tokens.specs.Cuts.{has, before, after}
 
--- ---- a loop that looks for the byte
+one-more : (n : ℕ) → 1 + n ≡ suc n
+one-more n = omega arith
 
-module _ (c : ℕ) (s : List ℕ) (i : ℕ) where
-  pub run-here : i < length s → get_or s i 0 ≡ c → length (before c (drop i s)) ≡ 0
-  unfolding before
-  run-here h e = rw (drop-next s i 0 h) (ap length (if_yes _ _ _ (eq-eqb _ _ e)))
-
-  pub run-next : i < length s → (get_or s i 0 ≡ c → ⊥) → length (before c (drop i s)) ≡ suc (length (before c (drop (i + 1) s)))
-  unfolding before
-  run-next h e = rw (drop-next s i 0 h) (ap length (if_no _ _ _ (ne_eqb _ _ e)))
-
-  pub run_end : length s ≤ i → length (before c (drop i s)) ≡ 0
-  unfolding before
-  run_end h = rw (drop_of_length-le s h)
-
--- ---- both parts, by the length of the first
+one-behind : (n : ℕ) → suc n + 1 ≡ suc (n + 1)
+one-behind n = omega arith
 
 module _ (c : ℕ) where
-  pub before-short : (s : List ℕ) → length (before c s) ≤ length s
+  -- ---- by the first byte
+
+  pub before-cons : (x : ℕ) (s : List ℕ) → before c (x ∷ s) ≡ (if x =? c then [] else (x ∷ before c s))
   unfolding before
-  before-short [] = omega arith
-  before-short (x ∷ s) = go (x =? c) (before-short s)
+  before-cons x s = go (x =? c)
     where
-      go : (t : Bool) → length (before c s) ≤ length s → length (if t then [] else (x ∷ before c s)) ≤ suc (length s)
-      go true h = omega arith
-      go false h = omega arith
+      go : (t : Bool) → take (if not t then (1 + position_or_len (λ y. y =? c) s) else 0) (x ∷ s) ≡ (if t then [] else (x ∷ before c s))
+      go true = refl
+      go false = ap (λ (n : ℕ). take n (x ∷ s)) (one-more (position_or_len (λ y. y =? c) s))
+
+  pub after-cons : (x : ℕ) (s : List ℕ) → after c (x ∷ s) ≡ (if x =? c then s else after c s)
+  unfolding after
+  after-cons x s = go (x =? c)
+    where
+      go : (t : Bool) → drop ((if not t then (1 + position_or_len (λ y. y =? c) s) else 0) + 1) (x ∷ s) ≡ (if t then s else after c s)
+      go true = refl
+      go false = ap (λ (n : ℕ). drop (n + 1) (x ∷ s)) (one-more (position_or_len (λ y. y =? c) s)) ∙ ap (λ (n : ℕ). drop n (x ∷ s)) (one-behind (position_or_len (λ y. y =? c) s))
+
+  -- ---- both parts, by the length of the first
+
+  before-length : (s : List ℕ) → length (before c s) ≡ position_or_len (λ x. x =? c) s
+  unfolding before
+  before-length s = length-prefix_len (λ x. not (x =? c)) s
+
+  pub before-short : (s : List ℕ) → length (before c s) ≤ length s
+  before-short s = rw (before-length s) (prefix_len-le-length (λ x. not (x =? c)) s)
 
   pub before-take : (s : List ℕ) → before c s ≡ take (length (before c s)) s
   unfolding before
-  before-take [] = refl
-  before-take (x ∷ s) = go (x =? c) (before-take s)
-    where
-      go : (t : Bool) → before c s ≡ take (length (before c s)) s → (if t then [] else (x ∷ before c s)) ≡ take (length (if t then [] else (x ∷ before c s))) (x ∷ s)
-      go true h = refl
-      go false h = ap (λ (l : List ℕ). x ∷ l) h
+  before-take s = ap (λ (n : ℕ). take n s) (sym (before-length s))
 
   pub after-drop : (s : List ℕ) → after c s ≡ drop (suc (length (before c s))) s
-  unfolding before after
-  after-drop [] = refl
-  after-drop (x ∷ s) = go (x =? c) (after-drop s)
-    where
-      go : (t : Bool) → after c s ≡ drop (suc (length (before c s))) s → (if t then s else after c s) ≡ drop (suc (length (if t then [] else (x ∷ before c s)))) (x ∷ s)
-      go true h = refl
-      go false h = h
+  unfolding after
+  after-drop s = ap (λ (n : ℕ). drop n s) (add-one _ ∙ ap suc (sym (before-length s)))
 
   pub has-before : (s : List ℕ) → has c s ≡ (length (before c s) <? length s)
   unfolding has before
   has-before [] = refl
-  has-before (x ∷ s) = go (x =? c) (has-before s)
+  has-before (x ∷ s) = rw (before-cons x s) (go (x =? c) (has-before s))
     where
       go : (t : Bool) → has c s ≡ (length (before c s) <? length s) → (t or has c s) ≡ (length (if t then [] else (x ∷ before c s)) <? suc (length s))
       go true h = sym (lt-ltb 0 (suc (length s)) (omega arith))
@@ -77,9 +75,3 @@ module _ (c : ℕ) (s : List ℕ) (n : ℕ) (e : n ≡ length (before c s)) wher
 
   pub part-after : take (length s - (n + 1)) (drop (n + 1) s) ≡ after c s
   part-after = take_all (length s - (n + 1)) (drop (n + 1) s) (omega (arith, length-drop (n + 1) s)) ∙ sym (after-drop c s ∙ rw (sym e, sym (add-one n)))
-
-  pub part_none : n ≡ length s → take (length s - n) (drop n s) ≡ after c s
-  part_none h =
-      let z : length s - n ≡ 0 = omega arith in
-      let k : length s ≤ suc n = omega arith in
-      rw z (sym (after-drop c s ∙ rw (sym e) (drop_of_length-le s k)))

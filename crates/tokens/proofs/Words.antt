@@ -11,19 +11,20 @@ use lib.Dec.{leb-suc-suc}
 use borrow.Author.Tests.{le-leb, lt-leb, leb-true, leb-false}
 use Rattle.octets.specs.Words.{◌≤?◌, ◌=?◌}
 use Rattle.octets.proofs.Tests.{if_yes, if_no}
-use Rattle.tokens.specs.Cuts.{before, onto, split}
+use Rattle.std.specs.List.{onto_first}
+use Rattle.tokens.specs.Cuts.{before, split}
 use Rattle.tokens.specs.Tokens.{token_of, words, tokens, space}
 use Rattle.tokens.specs.Steps.{words_from, tokens_from, word_at}
-use Rattle.tokens.proofs.Parts.{before-short}
+use Rattle.tokens.proofs.Parts.{before-cons, before-short}
 
 -- the first word, and the words behind it
 first_word : (s : List ℕ) → words s ≡ before space s ∷ words_from (suc (length (before space s))) s
 unfolding before split
 first_word [] = refl
-first_word (x ∷ s) = go (x =? space) (first_word s)
+first_word (x ∷ s) = rw (before-cons space x s) (go (x =? space) (first_word s))
   where
     go : (t : Bool) → words s ≡ before space s ∷ words_from (suc (length (before space s))) s
-        → (if t then ([] ∷ split space s) else onto x (split space s))
+        → (if t then ([] ∷ split space s) else onto_first x (split space s))
         ≡ (if t then [] else (x ∷ before space s)) ∷ words_from (suc (length (if t then [] else (x ∷ before space s)))) (x ∷ s)
     go true h = ap (λ (l : List (List ℕ)). [] ∷ l) (sym (if_yes _ _ _ (le-leb 1 (suc (length s)) (omega arith))))
     go false h = rw h (ap (λ (b : Bool). (x ∷ before space s) ∷ (if b then words (drop (suc (length (before space s))) s) else [])) (sym (leb-suc-suc (suc (length (before space s))) (length s))))

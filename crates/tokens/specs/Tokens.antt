@@ -1,5 +1,5 @@
 -- Document 01, "The ihave line": `key=value` tokens, one space between; a token splits at its first `=`.
-use Rattle.std.specs.Prelude.{ℕ, Bool, true, false, List, [], ◌∷◌, ◌++◌, map, if◌then◌else◌}
+use Rattle.std.specs.Prelude.{ℕ, Bool, true, false, List, [], ◌∷◌, ◌++◌, map, Option, Some, None, if◌then◌else◌}
 use Rattle.octets.specs.Words.{◌and◌, ◌or◌, no, every, some}
 use Rattle.octets.specs.Bytes.{same}
 use Rattle.names.specs.Reserved.{reserved, key_chk}
@@ -44,6 +44,10 @@ present k ts = some (same k) (keys ts)
 unfoldable pub value : List ℕ → List Token → List ℕ
 value k [] = []
 value k (t ∷ ts) = if same k t.key then t.value else value k ts
+
+-- the value of a key that may be missing
+abbrev pub given : List ℕ → List Token → Option (List ℕ)
+given k ts = if present k ts then Some (value k ts) else None
 
 -- the tokens whose keys are not reserved, in order
 unfoldable pub others : List Token → List Token

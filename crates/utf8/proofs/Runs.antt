@@ -1,4 +1,5 @@
 -- UTF-8 byte by byte: the rest decides, and a first byte leads one row only.
+use Rattle.std.specs.Prelude.{Option, Some, None}
 use Prim.Native.Nat.{ℕ, zero, suc, ◌+◌, ◌-◌, ◌≤◌, ◌<◌}
 use mathlib.Core.Path.{◌≡◌, refl, sym, ap, ◌∙◌}
 use mathlib.Core.Bool.{Bool, true, false}
@@ -101,9 +102,6 @@ nth k = get_or rows k (row (1 to 0) [])
 abbrev alone : ℕ → Bool
 alone k = every (apart (nth k).lead) (take k rows) and every (apart (nth k).lead) (drop (suc k) rows)
 
-pub stops : (s : List ℕ) (i past : ℕ) (rs : List Range) → run rs (drop i s) ≡ false → Passed s rs i past 0
-stops s i past rs e = record { within = omega arith; onward = λ z. absurd (z refl); decides = e }
-
 -- a first byte that leads row number k: what is behind it decides
 pub row-decides : (k : ℕ) → take k rows ++ (nth k ∷ drop (suc k) rows) ≡ rows → alone k ≡ true
     → (s : List ℕ) (i : ℕ) → i < length s → (nth k).lead.low ≤ get_or s i 0 → get_or s i 0 ≤ (nth k).lead.high → run [] (drop i s) ≡ run (nth k).behind (drop (i + 1) s)
@@ -114,15 +112,21 @@ row-decides k w e s i h l u =
     let d = one-led b (drop (i + 1) s) (take k rows) (nth k) (drop (suc k) rows) (and_left _ _ e) (and_right (every (apart r) (take k rows)) _ e) (inside r.low r.high b l u) in
     rw (drop-next s i 0 h) (ap (some (led b (drop (i + 1) s))) (sym w) ∙ d)
 
-pub passes : (s : List ℕ) (i next : ℕ) (rs : List Range) → run [] (drop i s) ≡ run rs (drop (i + 1) s) → Passed s rs (i + 1) (i + 1) next → Passed s [] i (i + 1) next
-passes s i next rs e p = record { within = p.within; onward = p.onward; decides = e ∙ p.decides }
+pub passes : (s : List ℕ) (i : ℕ) (next : Option ℕ) (rs : List Range) → run [] (drop i s) ≡ run rs (drop (i + 1) s) → Passed s rs (i + 1) (i + 1) next → Passed s [] i (i + 1) next
+passes s i None rs e p = e ∙ p
+passes s i (Some next) rs e p = (p.0, p.1, e ∙ p.2)
+
+-- a byte more in front
+pub one_before : (s : List ℕ) (i : ℕ) (next : Option ℕ) (r : Range) (rs : List Range) → run (r ∷ rs) (drop i s) ≡ run rs (drop (i + 1) s) → Passed s rs (i + 1) (i + 1) next → Passed s (r ∷ rs) i i next
+one_before s i None r rs e p = e ∙ p
+one_before s i (Some next) r rs e p = (omega arith, p.1, e ∙ p.2)
 
 -- a first byte from low to high, where no row is led
-pub by-none : (s : List ℕ) (i low high : ℕ) → every (apart (low to high)) rows ≡ true → i < length s → low ≤ get_or s i 0 → get_or s i 0 ≤ high → Passed s [] i (i + 1) 0
+pub by-none : (s : List ℕ) (i low high : ℕ) → every (apart (low to high)) rows ≡ true → i < length s → low ≤ get_or s i 0 → get_or s i 0 ≤ high → Passed s [] i (i + 1) None
 unfolding run
 by-none s i low high e h l u =
     let d = none-led (get_or s i 0) (drop (i + 1) s) (low to high) rows e (inside low high (get_or s i 0) l u) in
-    stops s i (i + 1) [] (rw (drop-next s i 0 h) d)
+    rw (drop-next s i 0 h) d
 
 one_more : (n : ℕ) → 0 < n → replicate n tail ≡ tail ∷ replicate (n - 1) tail
 one_more zero h = absurd (omega arith)

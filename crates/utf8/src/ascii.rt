@@ -16,10 +16,8 @@ fn is_ascii(s: &[u8], at: usize, width: usize) -> bool
     ensures { result ≡ every ascii (take width (drop at s.now)) }
 {
     let mut gathered: u8 = 0;
-    let mut i: usize = 0;
-    while i < width {
+    for i in 0..width {
         gathered |= s[at + i];
-        i += 1;
     }
     gathered <= 0x7F
 }

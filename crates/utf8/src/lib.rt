@@ -18,10 +18,9 @@ pub fn well_formed(s: &[u8]) -> bool
         if s[i] <= 0x7F {
             i = ascii::behind_run(s, i + 1);
         } else {
-            let to = characters::character(s, i);
-            if to == 0 {
+            let Some(to) = characters::character(s, i) else {
                 return false;
-            }
+            };
             i = to;
         }
     }

@@ -10,8 +10,8 @@ returns-then-base-lt1 c = base-none c.args.s.now c.call_run-base.result c.call_r
 pub returns-then-base-gt9 : goal.returns-then-base-gt9
 returns-then-base-gt9 c = base-long c.args.s.now c.call_run-base.result c.call_run-base.ensures.0 (search rules)
 
-pub returns-in-Ssid : goal.returns-in-Ssid
-returns-in-Ssid c = call-good c.args.s.now c.call_run-base.result c.call_run-base.ensures.0 _ (search rules) (search rules) (sym c.read_suffix-suffix.ensures ∙ c.in-Ssid.is)
+pub returns-in_err-ssid : goal.returns-in_err-ssid
+returns-in_err-ssid c = c.from_residual.ensures ∙ call-bad c.args.s.now c.call_run-base.result c.call_run-base.ensures.0 (sym c.read_suffix.ensures ∙ c.in_err-ssid.was)
 
-pub returns-in-Bad : goal.returns-in-Bad
-returns-in-Bad c = call-bad c.args.s.now c.call_run-base.result c.call_run-base.ensures.0 (sym c.read_suffix-suffix.ensures ∙ c.in-Bad.is)
+pub returns : goal.returns
+returns c = call-good c.args.s.now c.call_run-base.result c.call_run-base.ensures.0 _ (search rules) (search rules) (sym c.read_suffix.ensures ∙ c.in_ok-ssid.was)

@@ -10,14 +10,14 @@ returns-then-app-lt1 c = app-none c.args.s.now c.app_run-app.result c.app_run-ap
 pub returns-then-app-gt32 : goal.returns-then-app-gt32
 returns-then-app-gt32 c = app-long c.args.s.now c.app_run-app.result c.app_run-app.ensures.0 (search rules)
 
-pub returns-then-app-s : goal.returns-then-app-s
-returns-then-app-s c = app-alone c.args.s.now c.app_run-app.result c.app_run-app.ensures.0 (search rules)
+pub returns-in_default : goal.returns-in_default
+returns-in_default c = app-alone c.args.s.now c.app_run-app.result c.app_run-app.ensures.0 c.in_default.len_below
 
-pub returns-then-s-app-ne64 : goal.returns-then-s-app-ne64
-returns-then-s-app-ne64 c = app-other c.args.s.now c.app_run-app.result c.app_run-app.ensures.0 (search rules) c.if-s-app-ne64.true
+pub returns-in_default-2 : goal.returns-in_default-2
+returns-in_default-2 c = app-other c.args.s.now c.app_run-app.result c.app_run-app.ensures.0 (search rules)
 
-pub returns-in-Is : goal.returns-in-Is
-returns-in-Is c = app-call c.args.s.now c.app_run-app.result c.app_run-app.ensures.0 (search rules) _ (search rules) (search rules) c.if-s-app-ne64.false (sym c.read_callsign-callsign.ensures ∙ c.in-Is.is)
+pub returns-in_err-call : goal.returns-in_err-call
+returns-in_err-call c = c.from_residual.ensures ∙ app-no-call c.args.s.now c.app_run-app.result c.app_run-app.ensures.0 (sym c.read_callsign.ensures ∙ c.in_err-call.was)
 
-pub returns-in-Malformed : goal.returns-in-Malformed
-returns-in-Malformed c = app-no-call c.args.s.now c.app_run-app.result c.app_run-app.ensures.0 (search rules) (sym c.read_callsign-callsign.ensures ∙ c.in-Malformed.is)
+pub returns : goal.returns
+returns c = app-call c.args.s.now c.app_run-app.result c.app_run-app.ensures.0 _ (search rules) (search rules) (search rules) (sym c.read_callsign.ensures ∙ c.in_ok-call.was)

@@ -1,15 +1,20 @@
--- What the two texts come to, and blanks where one is not there.
-use mathlib.Core.Path.{ap, sym, ◌∙◌}
-use borrow.Author.Tests.{not-true, not-false}
-use Rattle.envelope.specs.Texts.{fitted, padded}
-use Rattle.datagram_numbers.proofs.Answers.{not_found, is_found}
-use Rattle.datagram_texts.specs.Found.{header_found}
-use Rattle.datagram_texts.proofs.Says.{header-whole}
+-- The key, then the value from the part behind it.
+use Rattle.std.proofs.Common.{ap, arith}
+use Rattle.layout.specs.Layout.{text}
+use Rattle.layout.proofs.Laws.{text-laws}
+use Rattle.datagram_numbers.proofs.Chains.{tail, room-read, room-two}
+use Rattle.datagram_texts.specs.Found.{seen}
 use Rattle.datagram_texts.proofs.read_header.Goals as goal
 
-pub returns-then-not-r : goal.returns-then-not-r
-unfolding padded fitted
-returns-then-not-r c = sym (ap header_found (not_found _ c.args.d.now _ _ _ c.read_pair-r.ensures (not-true _ c.if-not-r.true)))
+pub slice_bounds-d1-count : goal.slice_bounds-d1-count
+slice_bounds-d1-count c = room-read (text 2 32) (λ l. l) c.args.d.now (seen c.text16.result) _ _ (text-laws 2 32) c.text16.ensures (ap seen c.in_ok-key.was)
 
-pub returns : goal.returns
-returns c = header-whole c.read_pair-r.result (not-false _ c.if-not-r.false) ∙ sym (ap header_found (is_found _ c.args.d.now _ _ _ c.read_pair-r.ensures (not-false _ c.if-not-r.false)))
+pub slice_bounds-d1-start : goal.slice_bounds-d1-start
+slice_bounds-d1-start c = room-read (text 2 32) (λ l. l) c.args.d.now (seen c.text16.result) _ _ (text-laws 2 32) c.text16.ensures (ap seen c.in_ok-key.was)
+
+pub overflow_add-result : goal.overflow_add-result
+overflow_add-result c =
+    let s = c.args.d.now in
+    let a = room-read (text 2 32) (λ l. l) s (seen c.text16.result) _ _ (text-laws 2 32) c.text16.ensures (ap seen c.in_ok-key.was) in
+    let b = room-read (text 2 128) (λ l. l) (tail c.in_ok-key.n1 s) (seen c.text16-2.result) _ _ (text-laws 2 128) c.text16-2.ensures (ap seen c.in_ok-value.was) in
+    omega (arith, room-two c.in_ok-key.n1 c.in_ok-value.n2 s a b, c.well_formed.0)

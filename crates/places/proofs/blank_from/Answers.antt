@@ -1,20 +1,14 @@
--- The places from n on are empty: those gathered, and the rest.
-use mathlib.Core.Path.{refl, sym, ◌∙◌}
+-- What is gathered from the places from n on is 0 where all of them are empty.
+use mathlib.Core.Path.{◌≡◌, ap, ◌∙◌}
+use Prim.Native.Nat.{ℕ, ◌-◌}
 use native.Mathlib.Omega.{arith}
+use lib.ListN.{length, take, drop}
 use borrow.Author.Rules.{rules}
-use borrow.Author.Tests.{eq-eqb, ne_eqb}
-use lib.Bits.{bit_or}
-use Rattle.places.proofs.Packing.{blank-next, blank-end}
+use Rattle.octets.specs.Words.{every, ◌=?◌}
+use Rattle.places.specs.Places.{is_blank}
+use Rattle.places.proofs.Packing.{bare-gathered, past}
 use Rattle.places.proofs.blank_from.Goals as goal
 
-pub loop-i-init : goal.loop-i-init
-loop-i-init c = (search rules, refl)
-
-pub loop-i-preserved : goal.loop-i-preserved
-loop-i-preserved c = (c.loop-i.invariant.0, c.loop-i.invariant.1 ∙ blank-next c.loop-i.numbers c.loop-i.timeouts c.loop-i.slips c.args.held c.loop-i.i (omega arith))
-
-pub returns-then-numbers-timeouts-ne0 : goal.returns-then-numbers-timeouts-ne0
-returns-then-numbers-timeouts-ne0 c = sym (c.loop-i.invariant.1 ∙ blank-end (bit_or (bit_or c.loop-i.numbers c.loop-i.timeouts) c.loop-i.slips) c.args.held c.loop-i.i (omega arith) ∙ ne_eqb _ _ c.if-numbers-timeouts-ne0.true)
-
 pub returns : goal.returns
-returns c = sym (c.loop-i.invariant.1 ∙ blank-end (bit_or (bit_or c.loop-i.numbers c.loop-i.timeouts) c.loop-i.slips) c.args.held c.loop-i.i (omega arith) ∙ eq-eqb _ _ c.if-numbers-timeouts-ne0.false)
+returns c = let l : length c.args.held ≡ 16 = search rules in
+    ap (λ (k : ℕ). k =? 0) c.gathered.ensures ∙ bare-gathered 0 (take (16 - c.min.result) (drop c.min.result c.args.held)) ∙ ap (every is_blank) (past c.args.held c.args.n c.min.result l (omega arith))

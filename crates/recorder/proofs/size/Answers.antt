@@ -1,6 +1,5 @@
 -- The key's size and the row's.
 use native.Mathlib.Omega.{arith}
-use Rattle.records.specs.Record.{key, row}
 use Rattle.recorder.proofs.Behind.{body-parts}
 use Rattle.recorder.proofs.size.Goals as goal
 

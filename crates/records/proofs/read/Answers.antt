@@ -1,29 +1,37 @@
 -- The key, then the row behind it.
-use Prim.Native.Nat.{◌<◌}
-use mathlib.Core.Path.{sym, ap, ◌∙◌}
 use native.Mathlib.Omega.{arith}
-use borrow.Author.Rules.{rules}
-use borrow.Author.Tests.{not-true, not-false}
-use lib.ListN.{length}
-use Rattle.records.specs.Record.{reading_of}
-use Rattle.records.proofs.Found.{body-1, body-room-1, body-2, body-3, body-room-2}
+use Rattle.records.specs.Record.{key, row}
+use Rattle.records.proofs.Found.{missed, found, missed_at, found_at, body-1, body-start, body-2, body-3, body-room}
 use Rattle.records.proofs.read.Goals as goal
 
-pub returns-then-not-a : goal.returns-then-not-a
-returns-then-not-a c = c.no_record.ensures ∙ sym (ap reading_of (body-1 c.args.d.now _ c.read_key-a.ensures (not-true _ c.if-not-a.true)))
+pub returns-in_err-key : goal.returns-in_err-key
+returns-in_err-key c =
+    rw (c.from_residual.ensures, body-1 c.args.d.now (missed (λ k. k) (key.parse c.args.d.now) _ c.in_err-key.was c.read_key.ensures))
 
 pub slice_bounds-read_row-count : goal.slice_bounds-read_row-count
-slice_bounds-read_row-count c = body-room-1 c.args.d.now _ c.read_key-a.ensures (not-false _ c.if-not-a.false)
+slice_bounds-read_row-count c =
+    let k = found (key.parse c.args.d.now) _ _ _ c.in_ok-key.was c.read_key.ensures in
+    body-start c.args.d.now _ _ k
 
 pub slice_bounds-read_row-start : goal.slice_bounds-read_row-start
-slice_bounds-read_row-start c = body-room-1 c.args.d.now _ c.read_key-a.ensures (not-false _ c.if-not-a.false)
+slice_bounds-read_row-start c =
+    let k = found (key.parse c.args.d.now) _ _ _ c.in_ok-key.was c.read_key.ensures in
+    body-start c.args.d.now _ _ k
 
-pub returns-then-not-b : goal.returns-then-not-b
-returns-then-not-b c = c.no_record-then-not-b.ensures ∙ sym (ap reading_of (body-2 c.args.d.now _ c.read_key-a.ensures (not-false _ c.if-not-a.false) _ c.read_row-b.ensures (not-true _ c.if-not-b.true)))
+pub returns-in_err-row : goal.returns-in_err-row
+returns-in_err-row c =
+    let k = found (key.parse c.args.d.now) _ _ _ c.in_ok-key.was c.read_key.ensures in
+    let e = missed_at row.parse c.in_ok-key.n c.args.d.now (λ r. r) _ c.in_err-row.was c.read_row.ensures in
+    rw (c.from_residual-in_err-row.ensures, body-2 c.args.d.now _ _ k e)
 
 pub overflow_add-result : goal.overflow_add-result
-overflow_add-result c = let short : length c.args.d.now < 18446744073709551616 = search rules in
-    omega (arith, short, body-room-2 c.args.d.now _ c.read_key-a.ensures (not-false _ c.if-not-a.false) _ c.read_row-b.ensures (not-false _ c.if-not-b.false))
+overflow_add-result c =
+    let k = found (key.parse c.args.d.now) _ _ _ c.in_ok-key.was c.read_key.ensures in
+    let r = found_at row.parse c.in_ok-key.n c.args.d.now _ _ _ c.in_ok-row.was c.read_row.ensures in
+    omega (arith, body-room c.args.d.now _ _ k _ _ r)
 
 pub returns : goal.returns
-returns c = sym (ap reading_of (body-3 c.args.d.now _ c.read_key-a.ensures (not-false _ c.if-not-a.false) _ c.read_row-b.ensures (not-false _ c.if-not-b.false)))
+returns c =
+    let k = found (key.parse c.args.d.now) _ _ _ c.in_ok-key.was c.read_key.ensures in
+    let r = found_at row.parse c.in_ok-key.n c.args.d.now _ _ _ c.in_ok-row.was c.read_row.ensures in
+    rw (body-3 c.args.d.now _ _ k _ _ r)

@@ -5,8 +5,8 @@ use Rattle.session.proofs.Tests as tests
 use Rattle.session.proofs.open_session.Goals as goal
 
 pub returns-then-reply-lt-LONGEST_REPLY : goal.returns-then-reply-lt-LONGEST_REPLY
-returns-then-reply-lt-LONGEST_REPLY c = tests.open-short c.args.reply.now _ (search rules) c.closed-session.ensures
+returns-then-reply-lt-LONGEST_REPLY c = tests.open-short c.args.reply.now _ (search rules) c.closed.ensures
 
 pub returns : goal.returns
 unfolding reply_text
-returns c = tests.open-long c.args.reply.now _ _ _ (search rules) c.listening-session.ensures c.say-written.ensures
+returns c = tests.open-long c.args.reply.now _ _ _ (search rules) c.listening.ensures c.say-written.ensures

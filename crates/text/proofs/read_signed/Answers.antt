@@ -1,24 +1,24 @@
--- Behind a minus the negative of a number, else the number.
-use Prim.Native.Nat.{◌-◌}
-use mathlib.Core.Path.{sym, ap, subst, ◌∙◌}
+-- Without a minus the number itself.
+use mathlib.Core.Path.{◌≡◌, sym, ap, ◌∙◌}
+use mathlib.Core.Bool.{false}
 use native.Mathlib.Omega.{arith}
-use lib.ListN.{length, take, drop, length-drop}
-use lib.Seq.{take_all}
-use Rattle.text.specs.Steps.{at_most, plain, negated}
-use Rattle.text.proofs.Sign.{number_of-most, signed-none, signed-minus, signed-plain}
+use borrow.Author.Rules.{rules}
+use mir.Syntax.{w64}
+use mir.ValLaws.{to_z-of_z}
+use lib.IntN.{pos}
+use Rattle.std.specs.Prelude.{Some}
+use Rattle.text.specs.Decimal.{has_minus}
+use Rattle.text.proofs.Sign.{no_minus-empty, no_minus-other, signed-none, signed-some}
+use Rattle.text.proofs.read_signed.Goals.{then-s-lt1, else-s-lt1+in_default-1}
 use Rattle.text.proofs.read_signed.Goals as goal
 
-pub returns-then-s-eq0 : goal.returns-then-s-eq0
-returns-then-s-eq0 c = sym (signed-none c.args.s.now c.if-s-eq0.true)
-
-pub negative_of-requires : goal.negative_of-requires
-negative_of-requires c = subst (at_most 9223372036854775808) (sym c.read_number-n.ensures) (number_of-most 9223372036854775808 (take (length c.args.s.now - 1) (drop 1 c.args.s.now)))
-
-pub returns-then-s-eq45 : goal.returns-then-s-eq45
-returns-then-s-eq45 c = c.negative_of.ensures ∙ ap negated c.read_number-n.ensures ∙ rw (take_all (length c.args.s.now - 1) (drop 1 c.args.s.now) (omega (arith, length-drop 1 c.args.s.now))) (sym (signed-minus c.args.s.now c.if-s-eq45.true))
-
-pub positive_of-requires : goal.positive_of-requires
-positive_of-requires c = subst (at_most 9223372036854775807) (sym c.read_number-n-2.ensures) (number_of-most 9223372036854775807 c.args.s.now)
+pub returns-in_err-read_number-2 : goal.returns-in_err-read_number-2
+returns-in_err-read_number-2 c =
+    let e : has_minus c.args.s.now ≡ false = elim c.if-s-lt1.branch [ then-s-lt1 w ↦ no_minus-empty c.args.s.now (search rules) | else-s-lt1+in_default-1 w ↦ no_minus-other c.args.s.now (search rules) ] in
+    c.from_residual-in_err-read_number-2.ensures ∙ sym (signed-none c.args.s.now e (sym c.read_number-2.ensures ∙ c.in_err-read_number-2.was))
 
 pub returns : goal.returns
-returns c = c.positive_of.ensures ∙ ap plain c.read_number-n-2.ensures ∙ sym (signed-plain c.args.s.now c.if-s-eq45.false)
+returns c =
+    let e : has_minus c.args.s.now ≡ false = elim c.if-s-lt1.branch [ then-s-lt1 w ↦ no_minus-empty c.args.s.now (search rules) | else-s-lt1+in_default-1 w ↦ no_minus-other c.args.s.now (search rules) ] in
+    let p = signed-some c.args.s.now c.in_ok-read_number-2.field-0 e (sym c.read_number-2.ensures ∙ c.in_ok-read_number-2.was) in
+    ap Some (to_z-of_z w64 (pos c.in_ok-read_number-2.field-0) (record { sfits = omega (arith, p.1) })) ∙ sym p.0

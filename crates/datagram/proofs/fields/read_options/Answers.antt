@@ -1,33 +1,28 @@
 -- Fragment, stream and headers, each from the part behind the last.
-use native.Mathlib.Omega.{arith}
-use Rattle.datagram_numbers.proofs.Answers.{said}
-use Rattle.datagram_numbers.proofs.Chains.{tail}
-use Rattle.layout.specs.Layout.{options, fragment_if, stream_if, headers_if}
+use Rattle.std.proofs.Common.{arith}
+use Rattle.layout.specs.Layout.{fragment_if, stream_if, headers_if}
 use Rattle.layout.proofs.Laws.{fragment_if-laws, stream_if-laws, headers_if-laws}
-use Rattle.datagram_numbers.proofs.Chains.{tail-length, three-found}
-use Rattle.datagram_numbers.proofs.Says.{says-fragment}
-use Rattle.datagram_texts.proofs.Says.{says-stream}
-use Rattle.datagram_lists.proofs.Says.{says-headers}
+use Rattle.datagram_numbers.proofs.Chains.{tail, room-read, room-two, room-three}
 use Rattle.datagram.proofs.fields.read_options.Goals as goal
 
-pub slice_bounds-d1-count : goal.slice_bounds-d1-count
-slice_bounds-d1-count c = (said says-fragment (fragment_if c.args.flags.fragment) (fragment_if-laws c.args.flags.fragment) c.args.d.now c.read_fragment-a.result c.read_fragment-a.ensures).1
-
-pub slice_bounds-d1-start : goal.slice_bounds-d1-start
-slice_bounds-d1-start c = (said says-fragment (fragment_if c.args.flags.fragment) (fragment_if-laws c.args.flags.fragment) c.args.d.now c.read_fragment-a.result c.read_fragment-a.ensures).1
-
 pub slice_bounds-d2-count : goal.slice_bounds-d2-count
-slice_bounds-d2-count c = (said says-stream (stream_if c.args.flags.stream) (stream_if-laws c.args.flags.stream) (tail c.read_fragment-a.result.used c.args.d.now) c.read_stream-b.result c.read_stream-b.ensures).1
+slice_bounds-d2-count c = room-read (stream_if c.args.flags.stream) (λ s. s) (tail c.in_ok-fragment.n1 c.args.d.now) c.read_stream.result _ _ (stream_if-laws c.args.flags.stream) c.read_stream.ensures c.in_ok-stream.was
 
 pub slice_bounds-d2-start : goal.slice_bounds-d2-start
-slice_bounds-d2-start c = (said says-stream (stream_if c.args.flags.stream) (stream_if-laws c.args.flags.stream) (tail c.read_fragment-a.result.used c.args.d.now) c.read_stream-b.result c.read_stream-b.ensures).1
+slice_bounds-d2-start c = room-read (stream_if c.args.flags.stream) (λ s. s) (tail c.in_ok-fragment.n1 c.args.d.now) c.read_stream.result _ _ (stream_if-laws c.args.flags.stream) c.read_stream.ensures c.in_ok-stream.was
 
 pub overflow_add-result : goal.overflow_add-result
-overflow_add-result c = omega (arith, (said says-fragment (fragment_if c.args.flags.fragment) (fragment_if-laws c.args.flags.fragment) c.args.d.now c.read_fragment-a.result c.read_fragment-a.ensures).1, (said says-stream (stream_if c.args.flags.stream) (stream_if-laws c.args.flags.stream) (tail c.read_fragment-a.result.used c.args.d.now) c.read_stream-b.result c.read_stream-b.ensures).1, (said says-headers (headers_if c.args.flags.headers) (headers_if-laws c.args.flags.headers) (tail c.read_stream-b.result.used (tail c.read_fragment-a.result.used c.args.d.now)) c.read_headers-c.result c.read_headers-c.ensures).1, tail-length c.read_fragment-a.result.used c.args.d.now, tail-length c.read_stream-b.result.used (tail c.read_fragment-a.result.used c.args.d.now), c.well_formed.0)
+overflow_add-result c =
+    let s = c.args.d.now in
+    let a = room-read (fragment_if c.args.flags.fragment) (λ f. f) s c.read_fragment.result _ _ (fragment_if-laws c.args.flags.fragment) c.read_fragment.ensures c.in_ok-fragment.was in
+    let b = room-read (stream_if c.args.flags.stream) (λ s. s) (tail c.in_ok-fragment.n1 s) c.read_stream.result _ _ (stream_if-laws c.args.flags.stream) c.read_stream.ensures c.in_ok-stream.was in
+    omega (arith, room-two c.in_ok-fragment.n1 c.in_ok-stream.n2 s a b, c.well_formed.0)
 
 pub overflow_add-result-2 : goal.overflow_add-result-2
-overflow_add-result-2 c = omega (arith, (said says-fragment (fragment_if c.args.flags.fragment) (fragment_if-laws c.args.flags.fragment) c.args.d.now c.read_fragment-a.result c.read_fragment-a.ensures).1, (said says-stream (stream_if c.args.flags.stream) (stream_if-laws c.args.flags.stream) (tail c.read_fragment-a.result.used c.args.d.now) c.read_stream-b.result c.read_stream-b.ensures).1, (said says-headers (headers_if c.args.flags.headers) (headers_if-laws c.args.flags.headers) (tail c.read_stream-b.result.used (tail c.read_fragment-a.result.used c.args.d.now)) c.read_headers-c.result c.read_headers-c.ensures).1, tail-length c.read_fragment-a.result.used c.args.d.now, tail-length c.read_stream-b.result.used (tail c.read_fragment-a.result.used c.args.d.now), c.well_formed.0)
-
-pub returns : goal.returns
-unfolding options
-returns c = rw (c.both-ok.ensures, c.both.ensures) (three-found (fragment_if c.args.flags.fragment) (stream_if c.args.flags.stream) (headers_if c.args.flags.headers) c.args.d.now _ _ _ _ _ _ _ _ _ (said says-fragment (fragment_if c.args.flags.fragment) (fragment_if-laws c.args.flags.fragment) c.args.d.now c.read_fragment-a.result c.read_fragment-a.ensures) (said says-stream (stream_if c.args.flags.stream) (stream_if-laws c.args.flags.stream) (tail c.read_fragment-a.result.used c.args.d.now) c.read_stream-b.result c.read_stream-b.ensures) (said says-headers (headers_if c.args.flags.headers) (headers_if-laws c.args.flags.headers) (tail c.read_stream-b.result.used (tail c.read_fragment-a.result.used c.args.d.now)) c.read_headers-c.result c.read_headers-c.ensures))
+overflow_add-result-2 c =
+    let s = c.args.d.now in
+    let t = tail c.in_ok-stream.n2 (tail c.in_ok-fragment.n1 s) in
+    let a = room-read (fragment_if c.args.flags.fragment) (λ f. f) s c.read_fragment.result _ _ (fragment_if-laws c.args.flags.fragment) c.read_fragment.ensures c.in_ok-fragment.was in
+    let b = room-read (stream_if c.args.flags.stream) (λ s. s) (tail c.in_ok-fragment.n1 s) c.read_stream.result _ _ (stream_if-laws c.args.flags.stream) c.read_stream.ensures c.in_ok-stream.was in
+    let e = room-read (headers_if c.args.flags.headers) (λ h. h) t c.read_headers.result _ _ (headers_if-laws c.args.flags.headers) c.read_headers.ensures c.in_ok-headers.was in
+    omega (arith, room-three c.in_ok-fragment.n1 c.in_ok-stream.n2 c.in_ok-headers.n3 s a b e, c.well_formed.0)

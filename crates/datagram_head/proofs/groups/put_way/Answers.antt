@@ -1,20 +1,26 @@
 -- The message's way, each of its fields behind the last.
-use Rattle.layout.specs.Layout.{way}
-use Rattle.datagram_head.proofs.Puts.{first-room, next-room, both}
+use mathlib.Core.Path.{sym}
+use Rattle.datagram_head.proofs.Puts.{first-room, next-room, both, room_as, put_as, widened}
+use Rattle.datagram_head.proofs.Whole.{in-way}
 use Rattle.datagram_head.proofs.groups.put_way.Goals as goal
 
 pub put_if-a-requires : goal.put_if-a-requires
-unfolding way
-put_if-a-requires c = first-room _ _ c.requires
+put_if-a-requires c =
+    let h = room_as (in-way c.args.m.now c.map.result (widened c.args.m.now.flood c.map.result c.map.ensures.cases)) c.requires in
+    first-room _ _ h
 
 pub put_route-b-requires : goal.put_route-b-requires
-unfolding way
-put_route-b-requires c = first-room _ _ (next-room _ c.put_if-a.ensures c.requires)
+put_route-b-requires c =
+    let h = room_as (in-way c.args.m.now c.map.result (widened c.args.m.now.flood c.map.result c.map.ensures.cases)) c.requires in
+    first-room _ _ (next-room _ c.put_if-a.ensures h)
 
 pub put_route-requires : goal.put_route-requires
-unfolding way
-put_route-requires c = next-room _ c.put_route-b.ensures (next-room _ c.put_if-a.ensures c.requires)
+put_route-requires c =
+    let h = room_as (in-way c.args.m.now c.map.result (widened c.args.m.now.flood c.map.result c.map.ensures.cases)) c.requires in
+    next-room _ c.put_route-b.ensures (next-room _ c.put_if-a.ensures h)
 
 pub returns : goal.returns
-unfolding way
-returns c = both c.requires c.put_if-a.ensures (both (next-room _ c.put_if-a.ensures c.requires) c.put_route-b.ensures c.put_route.ensures)
+returns c =
+    let e = in-way c.args.m.now c.map.result (widened c.args.m.now.flood c.map.result c.map.ensures.cases) in
+    let h = room_as e c.requires in
+    put_as (sym e) (both h c.put_if-a.ensures (both (next-room _ c.put_if-a.ensures h) c.put_route-b.ensures c.put_route.ensures))

@@ -1,14 +1,9 @@
--- What is left of the route stands behind what was put.
-use Prim.Native.Nat.{◌-◌, ◌≤◌}
-use mathlib.Core.Path.{◌≡◌}
-use lib.ListN.{length, take, drop}
+-- What is left of the list stands behind what was put.
+use Rattle.std.proofs.Common.{drop}
 use Rattle.octets.specs.Field.{many_print}
 use Rattle.layout.specs.Layout.{call}
 use Rattle.datagram_head.proofs.Left.{Left}
 use Rattle.datagram_head.proofs.lists.put_hops.Given as goal
 
-abbrev pub invariant-loop-i : goal.invariant-loop-i
-invariant-loop-i l = (length l.items ≡ 16) × (l.i ≤ l.n) × (Left (many_print (call 1) (drop l.i (take l.n l.items))) l.next l.out (many_print (call 1) (take l.n l.items)) l.at l.initial.out)
-
-abbrev pub decreases-loop-i : goal.decreases-loop-i
-decreases-loop-i l = l.n - l.i
+abbrev pub invariant-loop-hop : goal.invariant-loop-hop
+invariant-loop-hop l = Left (many_print (call 1) (drop l.hop-index l.hops)) l.next l.out (many_print (call 1) l.hops) l.at l.initial.out

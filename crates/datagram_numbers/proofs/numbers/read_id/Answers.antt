@@ -1,13 +1,11 @@
--- Seven hexadecimal digits.
-use Rattle.datagram_numbers.proofs.Answers.{number_short}
-use Rattle.datagram_numbers.proofs.Ids.{id-short, id-is, id-not}
+-- Seven bytes that are no id.
+use Rattle.std.proofs.Common.{◌≡◌, ◌≤◌, length, take, None, rules}
+use Rattle.text.specs.Hex.{id_of}
+use Rattle.datagram_numbers.proofs.Ids.{no-id}
 use Rattle.datagram_numbers.proofs.numbers.read_id.Goals as goal
 
-pub returns-then-d-lt7 : goal.returns-then-d-lt7
-returns-then-d-lt7 c = number_short _ c.args.d.now _ (id-short c.args.d.now c.if-d-lt7.true)
-
-pub returns-in-Is : goal.returns-in-Is
-returns-in-Is c = id-is c.args.d.now c.read_id-n.result _ c.if-d-lt7.false c.read_id-n.ensures c.in-Is.is
-
-pub returns-in-Malformed : goal.returns-in-Malformed
-returns-in-Malformed c = id-not c.args.d.now c.read_id-n.result c.if-d-lt7.false c.read_id-n.ensures c.in-Malformed.is
+pub returns-in_err-id : goal.returns-in_err-id
+returns-in_err-id c =
+    let h : 7 ≤ length c.args.d.now = search rules in
+    let e : None ≡ id_of (take 7 c.args.d.now) = search rules in
+    rw (c.from_residual-in_err-id.ensures, no-id c.args.d.now h e)

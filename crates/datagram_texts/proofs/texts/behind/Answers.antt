@@ -1,12 +1,15 @@
--- The bytes behind the length, if there are so many and no more than fit.
-use Rattle.datagram_texts.proofs.Spans.{behind-long, behind-short, behind-all}
+-- The bytes behind the first k, where there are as many.
+use Rattle.std.proofs.Common.{◌≡◌, ◌+◌, ◌-◌, ℕ, List, [], ◌∷◌, true, refl, length, take, drop, length-drop, arith}
+use borrow.Author.Tests.{le-leb}
+use Rattle.octets.specs.Words.{every}
 use Rattle.datagram_texts.proofs.texts.behind.Goals as goal
 
-pub returns-then-most-v : goal.returns-then-most-v
-returns-then-most-v c = behind-long c.args.k c.args.v c.args.most c.args.d.now c.if-most-v.true
-
-pub returns-then-d-k : goal.returns-then-d-k
-returns-then-d-k c = behind-short c.args.k c.args.v c.args.most c.args.d.now c.if-most-v.false c.if-d-k.true
+all-bytes : (l : List ℕ) → every (λ x. true) l ≡ true
+all-bytes [] = refl
+all-bytes (x ∷ l) = all-bytes l
 
 pub returns : goal.returns
-returns c = behind-all c.args.k c.args.v c.args.most c.args.d.now c.requires c.if-most-v.false c.if-d-k.false
+returns c =
+    let z : c.args.k + c.args.len - c.args.k ≡ c.args.len = omega arith in
+    let r = drop c.args.k c.args.d.now in
+    rw (z, le-leb c.args.len c.args.most c.if-most-len.false, le-leb c.args.len (length r) (rw length-drop c.if-d-k.false), all-bytes (take c.args.len r))

@@ -1,51 +1,48 @@
 -- The fragments stand in the buffer's front: what is still to be written is placed behind what was.
-use Prim.Native.Nat.{◌+◌, ◌*◌, ◌-◌}
-use mathlib.Core.Path.{refl, ap, ◌∙◌}
-use native.Mathlib.Omega.{arith}
-use borrow.Author.Rules.{rules}
-use lib.ListN.{take, drop, get_or}
-use Rattle.groups.specs.Groups.{place, no_piece, fragments, bytes_in}
-use Rattle.groups.proofs.Search.{unmapped, fragments-end, fragments-next}
-use Rattle.fragments.specs.Store.{joined}
-use Rattle.fragments.proofs.Joins.{short-at, part_bytes, length_rest, join-next, join-end}
+use Rattle.std.proofs.Common.{◌≡◌, List, ◌+◌, ◌*◌, ◌-◌, length, take, drop, get_or, ap, ◌∙◌, arith}
+use Rattle.std.proofs.lemmas.List.Sums.{sum_by-cons}
+use Rattle.octets.specs.Bytes.{front}
+use Rattle.octets.proofs.Lists.{drop-next}
+use Rattle.groups.specs.declared.Piece.{Piece}
+use Rattle.groups.specs.Groups.{place, no_piece, bytes_in}
+use Rattle.groups.proofs.Search.{unmapped, past}
+use Rattle.fragments.specs.Store.{joined_from}
+use Rattle.fragments.proofs.Joins.{short_first, short-at, first-fragments, first-few, part_bytes, length_rest, join-next, join-end}
 use Rattle.fragments.proofs.store.join.Goals as goal
 
-pub loop-i-init : goal.loop-i-init
-loop-i-init c = (search unmapped, refl, omega arith, refl, search rules)
-
-pub shape_of-out-then-i-total : goal.shape_of-out-then-i-total
-shape_of-out-then-i-total c = c.loop-i.invariant.1
-
-pub returns-then-i-total : goal.returns-then-i-total
-returns-then-i-total c = let e = fragments-end c.args.x.total c.args.x.pieces c.loop-i.i (omega arith) in
-    let b = ap bytes_in e in
-    let l = length_rest c.args.store.now c.args.g c.requires.0 c.requires.1 c.args.x 0 (omega arith) c.loop-i.invariant.0 c.requires.2 in
-    join-end c.args.store.now c.args.g c.loop-i.i c.loop-i.at _ (joined c.args.store.now c.args.g c.args.x) c.loop-i.out c.args.out.now e (omega arith) c.loop-i.invariant.3 (omega arith)
-
-pub overflow_add-from-in-loop-i : goal.overflow_add-from-in-loop-i
-overflow_add-from-in-loop-i c = let q = short-at c.args.x.total c.args.x.pieces c.loop-i.i c.requires.2 (omega arith) in omega arith
-
 pub slice_bounds-copy_at-end : goal.slice_bounds-copy_at-end
-slice_bounds-copy_at-end c = let q = short-at c.args.x.total c.args.x.pieces c.loop-i.i c.requires.2 (omega arith) in omega arith
-
-pub overflow_add-at : goal.overflow_add-at
-overflow_add-at c = let e = ap bytes_in (fragments-next c.args.x.total c.args.x.pieces c.loop-i.i (omega arith) (omega arith)) in omega arith
+slice_bounds-copy_at-end c = let long : length c.args.x.pieces ≡ 16 = search unmapped in
+    let k = first-few c.args.x c.min-n.result c.min-n.ensures long in
+    let q = short-at (take c.min-n.result c.args.x.pieces) c.loop-i.i (short_first c.args.x c.min-n.result c.requires.2) c.loop-i-test.true in
+    omega (arith, c.from-len.ensures)
 
 pub loop-i-preserved : goal.loop-i-preserved
-loop-i-preserved c = let q = short-at c.args.x.total c.args.x.pieces c.loop-i.i c.requires.2 (omega arith) in
-    let e = fragments-next c.args.x.total c.args.x.pieces c.loop-i.i (omega arith) (omega arith) in
-    let b = ap bytes_in e in
-    let l = length_rest c.args.store.now c.args.g c.requires.0 c.requires.1 c.args.x (c.loop-i.i + 1) (omega arith) c.loop-i.invariant.0 c.requires.2 in
-    let w = part_bytes c.args.store.now c.args.g c.loop-i.i (get_or c.args.x.pieces c.loop-i.i no_piece) c.wide16-len.result c.requires.0 (omega arith) c.requires.1 q c.wide16-len.ensures.0 in
+loop-i-preserved c = let long : length c.args.x.pieces ≡ 16 = search unmapped in
+    let ps = take c.min-n.result c.args.x.pieces in
+    let k = first-few c.args.x c.min-n.result c.min-n.ensures long in
+    let a = short_first c.args.x c.min-n.result c.requires.2 in
+    let q = short-at ps c.loop-i.i a c.loop-i-test.true in
+    let e = drop-next ps c.loop-i.i no_piece c.loop-i-test.true in
+    let b = ap bytes_in e ∙ sum_by-cons (λ (p : Piece). p.len) (get_or ps c.loop-i.i no_piece) (drop (c.loop-i.i + 1) ps) in
+    let j = ap bytes_in (first-fragments c.args.x c.min-n.result c.min-n.ensures long) in
+    let l = length_rest c.args.store.now c.args.g c.requires.0 c.requires.1 ps (c.loop-i.i + 1) (omega arith) k a in
+    let w = part_bytes c.args.store.now c.args.g c.loop-i.i (get_or ps c.loop-i.i no_piece) c.from-len.result c.requires.0 (omega arith) c.requires.1 q c.from-len.ensures in
     let from = (16 * c.args.g + c.loop-i.i) * place in
-    let n = join-next c.args.store.now c.args.g c.loop-i.i c.loop-i.at c.wide16-len.result (drop c.loop-i.i (fragments c.args.x)) (drop (c.loop-i.i + 1) (fragments c.args.x)) (get_or c.args.x.pieces c.loop-i.i no_piece) (take (from + c.wide16-len.result - from) (drop from c.args.store.now)) c.loop-i.out _ e w.0 c.copy_at.ensures.1 w.1 (omega arith) in
-    (c.loop-i.invariant.0, n.0 ∙ c.loop-i.invariant.1, omega arith, n.1 ∙ c.loop-i.invariant.3, search rules)
-
-pub shape_of-out : goal.shape_of-out
-shape_of-out c = c.loop-i.invariant.1
+    let n = join-next c.args.store.now c.args.g c.loop-i.i c.loop-i.at c.from-len.result (drop c.loop-i.i ps) (drop (c.loop-i.i + 1) ps) (get_or ps c.loop-i.i no_piece) (take (from + c.from-len.result - from) (drop from c.args.store.now)) c.loop-i.out _ e w.0 c.copy_at.ensures.1 w.1 (omega arith) in
+    record {
+      size = n.0 ∙ c.loop-i.invariant.size;
+      left = omega arith;
+      rest = n.1 ∙ c.loop-i.invariant.rest;
+    }
 
 pub returns : goal.returns
-returns c = let e = fragments-end c.args.x.total c.args.x.pieces c.loop-i.i (omega arith) in
+returns c = let long : length c.args.x.pieces ≡ 16 = search unmapped in
+    let ps = take c.min-n.result c.args.x.pieces in
+    let k = first-few c.args.x c.min-n.result c.min-n.ensures long in
+    let f = first-fragments c.args.x c.min-n.result c.min-n.ensures long in
+    let j = ap bytes_in f in
+    let e = past ps c.loop-i.i (omega arith) in
     let b = ap bytes_in e in
-    let l = length_rest c.args.store.now c.args.g c.requires.0 c.requires.1 c.args.x 0 (omega arith) c.loop-i.invariant.0 c.requires.2 in
-    join-end c.args.store.now c.args.g c.loop-i.i c.loop-i.at _ (joined c.args.store.now c.args.g c.args.x) c.loop-i.out c.args.out.now e (omega arith) c.loop-i.invariant.3 (omega arith)
+    let l = length_rest c.args.store.now c.args.g c.requires.0 c.requires.1 ps 0 (omega arith) k (short_first c.args.x c.min-n.result c.requires.2) in
+    join-end c.args.store.now c.args.g c.loop-i.i c.loop-i.at _ (joined_from c.args.store.now c.args.g 0 ps) c.loop-i.out c.args.out.now e (omega arith) c.loop-i.invariant.rest (omega arith)
+    ∙ ap (λ (l : List Piece). front (joined_from c.args.store.now c.args.g 0 l) c.args.out.now) f

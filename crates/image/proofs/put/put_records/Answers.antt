@@ -1,27 +1,14 @@
 -- The records that are left stand behind those that were written.
-use mathlib.Core.Path.{refl, ◌∙◌}
-use mathlib.Core.Bool.{true}
+use mathlib.Core.Path.{◌∙◌}
 use native.Mathlib.Omega.{arith}
-use Rattle.image.proofs.Writing.{slot-keeps, sum-start, sum_room, sum_more, put-more, put_last}
+use Rattle.image.proofs.Writing.{slot-keeps, sum_more, put-more, put_last}
 use Rattle.image.proofs.put.put_records.Goals as goal
 
-pub loop-i-init : goal.loop-i-init
-loop-i-init c = (c.requires.0, sum-start c.args.t c.requires.0, refl, refl)
-
-pub put_record-requires : goal.put_record-requires
-put_record-requires c = sum_room c.args.t c.loop-i.invariant.0 c.loop-i.at c.loop-i.i c.loop-i.invariant.1 c.loop-i-test.true c.loop-i.out (omega (arith, c.requires.1, c.loop-i.invariant.2))
-
 pub record_size-at-requires : goal.record_size-at-requires
-record_size-at-requires c = slot-keeps c.args.t c.loop-i.invariant.0 c.loop-i.i c.loop-i-test.true
-
-pub overflow_add-at : goal.overflow_add-at
-overflow_add-at c = omega (arith, c.loop-i.invariant.1.most, c.record_size-at.ensures.1, c.loop-i-test.true)
+record_size-at-requires c = slot-keeps c.args.t.now c.loop-i.invariant.0 c.loop-i.i c.loop-i-test.true
 
 pub loop-i-preserved : goal.loop-i-preserved
-loop-i-preserved c = (c.loop-i.invariant.0, sum_more c.args.t c.loop-i.invariant.0 c.loop-i.at c.loop-i.i c.loop-i.invariant.1 c.loop-i-test.true _ c.record_size-at.ensures.0 c.record_size-at.ensures.1, c.put_record.auto.out ∙ c.loop-i.invariant.2, put-more c.args.t c.loop-i.invariant.0 c.loop-i.at c.loop-i.i c.loop-i.invariant.1 c.loop-i-test.true _ c.record_size-at.ensures.0 c.record_size-at.ensures.1 c.loop-i.out _ _ (omega (arith, c.requires.1, c.loop-i.invariant.2)) c.put_record.ensures c.loop-i.invariant.3)
-
-pub shape_of-out : goal.shape_of-out
-shape_of-out c = c.loop-i.invariant.2
+loop-i-preserved c = (c.loop-i.invariant.0, sum_more c.args.t.now c.loop-i.invariant.0 c.loop-i.at c.loop-i.i c.loop-i.invariant.1 c.loop-i-test.true _ c.record_size-at.ensures.0 c.record_size-at.ensures.1, c.put_record.auto.out ∙ c.loop-i.invariant.2, put-more c.args.t.now c.loop-i.invariant.0 c.loop-i.at c.loop-i.i c.loop-i.invariant.1 c.loop-i-test.true _ c.record_size-at.ensures.0 c.record_size-at.ensures.1 c.loop-i.out _ _ (omega (arith, c.requires.1, c.loop-i.invariant.2)) c.put_record.ensures c.loop-i.invariant.3)
 
 pub returns : goal.returns
-returns c = put_last c.args.t c.loop-i.invariant.0 c.loop-i.at c.loop-i.i c.loop-i.invariant.1 c.loop-i.out _ c.loop-i-test.false (omega (arith, c.requires.1, c.loop-i.invariant.2)) c.loop-i.invariant.3
+returns c = put_last c.args.t.now c.loop-i.invariant.0 c.loop-i.at c.loop-i.i c.loop-i.invariant.1 c.loop-i.out _ c.loop-i-test.false (omega (arith, c.requires.1, c.loop-i.invariant.2)) c.loop-i.invariant.3

@@ -1,5 +1,4 @@
 -- The records that are left stand behind those that were written.
-use Prim.Native.Nat.{◌-◌}
 use mathlib.Core.Path.{◌≡◌}
 use mathlib.Core.Bool.{true}
 use lib.ListN.{length, drop}
@@ -11,6 +10,3 @@ use Rattle.image.proofs.put.put_records.Given as goal
 
 abbrev pub invariant-loop-i : goal.invariant-loop-i
 invariant-loop-i l = (k : keeps_table l.t ≡ true) × Sum l.t k l.at l.i × (length l.out ≡ length l.initial.out) × (placed (records_from l.i (drop l.i l.t.slots)) l.at l.out ≡ placed (records_from 0 l.t.slots) 0 l.initial.out)
-
-abbrev pub decreases-loop-i : goal.decreases-loop-i
-decreases-loop-i l = 32 - l.i

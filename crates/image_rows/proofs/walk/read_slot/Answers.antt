@@ -1,16 +1,13 @@
 -- A record behind its mark, or a free row.
-use Prim.Native.Nat.{◌<◌}
-use mathlib.Core.Path.{sym, ap, ◌∙◌}
+use mathlib.Core.Path.{sym, ◌∙◌}
 use native.Mathlib.Omega.{arith}
-use borrow.Author.Rules.{rules}
-use borrow.Author.Tests.{not-true, not-false}
-use lib.ListN.{length}
-use Rattle.image_rows.specs.Steps.{slot_read}
+use Rattle.records.specs.Record.{body}
+use Rattle.records.proofs.Found.{missed_at, found_at}
 use Rattle.image_rows.proofs.Reading.{slot-free, slot-start, slot-bad, slot-got, slot-room}
 use Rattle.image_rows.proofs.walk.read_slot.Goals as goal
 
 pub returns-then-not-is_row : goal.returns-then-not-is_row
-returns-then-not-is_row c = rw c.free-free.ensures (sym (ap slot_read (slot-free c.args.i c.args.d.now (sym c.is_row.ensures ∙ c.if-not-is_row.true))))
+returns-then-not-is_row c = rw (c.free.ensures, slot-free c.args.i c.args.d.now (sym c.is_row.ensures ∙ c.if-not-is_row.true))
 
 pub slice_bounds-read-count : goal.slice_bounds-read-count
 slice_bounds-read-count c = slot-start c.args.i c.args.d.now (sym c.is_row.ensures ∙ c.if-not-is_row.false)
@@ -18,12 +15,17 @@ slice_bounds-read-count c = slot-start c.args.i c.args.d.now (sym c.is_row.ensur
 pub slice_bounds-read-start : goal.slice_bounds-read-start
 slice_bounds-read-start c = slot-start c.args.i c.args.d.now (sym c.is_row.ensures ∙ c.if-not-is_row.false)
 
-pub returns-then-not-r : goal.returns-then-not-r
-returns-then-not-r c = rw c.free-free.ensures (sym (ap slot_read (slot-bad c.args.i c.args.d.now (sym c.is_row.ensures ∙ c.if-not-is_row.false) _ c.read-r.ensures (not-true _ c.if-not-r.true))))
+pub returns-in_err-key : goal.returns-in_err-key
+returns-in_err-key c =
+    let e = missed_at body.parse 3 c.args.d.now (λ x. x) _ c.in_err-key.was c.read.ensures in
+    rw (c.from_residual.ensures, slot-bad c.args.i c.args.d.now (sym c.is_row.ensures ∙ c.if-not-is_row.false) e)
 
 pub overflow_add-result : goal.overflow_add-result
-overflow_add-result c = let short : length c.args.d.now < 18446744073709551616 = search rules in
-    omega (arith, short, slot-room c.args.i c.args.d.now (sym c.is_row.ensures ∙ c.if-not-is_row.false) _ c.read-r.ensures (not-false _ c.if-not-r.false))
+overflow_add-result c =
+    let e = found_at body.parse 3 c.args.d.now _ _ _ c.in_ok-key.was c.read.ensures in
+    omega (arith, slot-room c.args.i c.args.d.now (sym c.is_row.ensures ∙ c.if-not-is_row.false) _ _ e)
 
 pub returns : goal.returns
-returns c = sym (ap slot_read (slot-got c.args.i c.args.d.now (sym c.is_row.ensures ∙ c.if-not-is_row.false) _ c.read-r.ensures (not-false _ c.if-not-r.false)))
+returns c =
+    let e = found_at body.parse 3 c.args.d.now _ _ _ c.in_ok-key.was c.read.ensures in
+    rw (slot-got c.args.i c.args.d.now (sym c.is_row.ensures ∙ c.if-not-is_row.false) _ _ e)

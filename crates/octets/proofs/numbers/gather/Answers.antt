@@ -6,16 +6,16 @@ use Rattle.octets.proofs.NumberLaws.{gather_none, gather-next, gather-room, gath
 use Rattle.octets.proofs.numbers.gather.Goals as goal
 
 pub loop-i-init : goal.loop-i-init
-loop-i-init c = (search rules, sym (gather_none c.args.s.now c.args.w))
+loop-i-init c = sym (gather_none c.args.s.now c.args.w)
 
 pub overflow_mul-v : goal.overflow_mul-v
-overflow_mul-v c = omega (arith, c.loop-i.invariant.1, gather-room c.args.s.now c.args.w c.loop-i.i (λ i. (c.shared_slice_known-1.given i).fits) (search rules) (search rules))
+overflow_mul-v c = omega (arith, gather-room c.args.s.now c.args.w c.loop-i.i (λ i. (c.type_inv.s i).fits) (search rules) (search rules))
 
 pub overflow_add-v : goal.overflow_add-v
-overflow_add-v c = omega (arith, c.loop-i.invariant.1, gather-room c.args.s.now c.args.w c.loop-i.i (λ i. (c.shared_slice_known-1.given i).fits) (search rules) (search rules))
+overflow_add-v c = omega (arith, gather-room c.args.s.now c.args.w c.loop-i.i (λ i. (c.type_inv.s i).fits) (search rules) (search rules))
 
 pub loop-i-preserved : goal.loop-i-preserved
-loop-i-preserved c = (search rules, gather-next c.args.s.now c.args.w c.loop-i.i c.loop-i.v c.wide.result (search rules) (search rules) (search rules) c.loop-i.invariant.1 c.wide.ensures.0)
+loop-i-preserved c = gather-next c.args.s.now c.args.w c.loop-i.i c.loop-i.v c.from.result (search rules) (search rules) (search rules) c.loop-i.invariant (search rules)
 
 pub returns : goal.returns
-returns c = gather-all c.args.s.now c.args.w c.loop-i.i c.loop-i.v (λ i. (c.shared_slice_known-1.given i).fits) (search rules) (search rules) c.loop-i.invariant.1
+returns c = gather-all c.args.s.now c.args.w c.loop-i.i c.loop-i.v (λ i. (c.type_inv.s i).fits) (search rules) (search rules) c.loop-i.invariant

@@ -1,12 +1,7 @@
 -- The number in the first w bytes: after each byte, the number that the bytes from it on spell.
-use Prim.Native.Nat.{◌≤◌}
-use mathlib.Core.Path.{◌≡◌}
-use lib.ListN.{take, drop}
+use Rattle.std.proofs.Common.{◌≡◌, take, drop}
 use Rattle.octets.specs.Numbers.{little}
 use Rattle.octets.proofs.numbers.gather.Given as goal
 
 abbrev pub invariant-loop-i : goal.invariant-loop-i
-invariant-loop-i l = (l.i ≤ l.w) × (l.v ≡ little (drop l.i (take l.w l.s)))
-
-abbrev pub decreases-loop-i : goal.decreases-loop-i
-decreases-loop-i l = l.i
+invariant-loop-i l = l.v ≡ little (drop l.i (take l.w l.s))

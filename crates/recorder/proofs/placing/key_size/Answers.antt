@@ -11,9 +11,7 @@ use Rattle.recorder.proofs.placing.key_size.Goals as goal
 sizes : (a b : List ℕ) (n m : ℕ) → length a ≡ 12 → length b ≡ 255 → length (take n a) + length (take m b) ≤ 267
 sizes a b n m e f = omega (arith, length-take n a, length-take m b)
 
-pub overflow_add-result-2 : goal.overflow_add-result-2
-overflow_add-result-2 c = let s = sizes c.args.k.originator c.args.k.stream_id c.args.k.originator_len c.args.k.stream_id_len (search rules) (search rules) in omega (arith, s, ap length c.part-a.ensures, ap length c.part-b.ensures)
-
 pub returns : goal.returns
-returns c = let s = sizes c.args.k.originator c.args.k.stream_id c.args.k.originator_len c.args.k.stream_id_len (search rules) (search rules) in
-    (omega (arith, key-size c.args.k, ap length c.part-a.ensures, ap length c.part-b.ensures), omega (arith, s, ap length c.part-a.ensures, ap length c.part-b.ensures))
+returns c =
+    let s = sizes c.args.k.originator c.args.k.stream_id c.args.k.originator_len c.args.k.stream_id_len (search rules) (search rules) in
+    (omega (arith, key-size c.args.k, ap length c.part-originator.ensures, ap length c.part-stream_id.ensures), omega (arith, s, ap length c.part-originator.ensures, ap length c.part-stream_id.ensures))

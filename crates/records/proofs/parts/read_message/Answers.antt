@@ -1,27 +1,36 @@
 -- Three numbers of four bytes.
-use Rattle.records.proofs.Found.{no-32, is_32, no-32-first, is-32-first, message-1, message-2, message-room, message-3, message-4}
+use Prim.Native.Nat.{◌+◌}
+use mathlib.Core.Path.{◌∙◌}
+use Rattle.std.proofs.Common.{add_assoc}
+use lib.Seq.{drop-drop}
+use Rattle.octets.specs.Field.{num}
+use Rattle.records.specs.Record.{message}
+use Rattle.records.proofs.Found.{missed, found, missed_at, found_at}
 use Rattle.records.proofs.parts.read_message.Goals as goal
 
-pub returns-in_default : goal.returns-in_default
-returns-in_default c = message-1 c.args.d.now (no-32-first c.args.d.now _ c.in_default.is c.read_u32-one.ensures)
+pub returns-in_err-number : goal.returns-in_err-number
+unfolding message
+returns-in_err-number c = let e = missed (λ n. n) ((num 4).parse c.args.d.now) _ c.in_err-number.was c.read.ensures in c.from_residual.ensures ∙ rw e
 
-pub slice_bounds-read_u32-count : goal.slice_bounds-read_u32-count
-slice_bounds-read_u32-count c = (is-32-first c.args.d.now _ _ _ c.in-Got.is c.read_u32-one.ensures).long
+pub returns-in_err-timeout : goal.returns-in_err-timeout
+unfolding message
+returns-in_err-timeout c =
+    let a = found ((num 4).parse c.args.d.now) _ _ _ c.in_ok-number.was c.read.ensures in
+    let b = missed_at ((num 4).parse) c.in_ok-number.a c.args.d.now (λ n. n) _ c.in_err-timeout.was c.read-2.ensures in
+    c.from_residual-in_err-timeout.ensures ∙ rw (a, b)
 
-pub slice_bounds-read_u32-start : goal.slice_bounds-read_u32-start
-slice_bounds-read_u32-start c = (is-32-first c.args.d.now _ _ _ c.in-Got.is c.read_u32-one.ensures).long
-
-pub returns-in_default-two : goal.returns-in_default-two
-returns-in_default-two c = message-2 c.args.d.now _ (is-32-first c.args.d.now _ _ _ c.in-Got.is c.read_u32-one.ensures) (no-32 4 c.args.d.now _ c.in_default-two.is c.read_u32-two.ensures)
-
-pub slice_bounds-read_u32-count-2 : goal.slice_bounds-read_u32-count-2
-slice_bounds-read_u32-count-2 c = message-room c.args.d.now _ (is-32-first c.args.d.now _ _ _ c.in-Got.is c.read_u32-one.ensures) _ (is_32 4 c.args.d.now _ _ _ c.in-Got-two.is c.read_u32-two.ensures)
-
-pub slice_bounds-read_u32-start-2 : goal.slice_bounds-read_u32-start-2
-slice_bounds-read_u32-start-2 c = message-room c.args.d.now _ (is-32-first c.args.d.now _ _ _ c.in-Got.is c.read_u32-one.ensures) _ (is_32 4 c.args.d.now _ _ _ c.in-Got-two.is c.read_u32-two.ensures)
-
-pub returns-in_default-three : goal.returns-in_default-three
-returns-in_default-three c = message-3 c.args.d.now _ (is-32-first c.args.d.now _ _ _ c.in-Got.is c.read_u32-one.ensures) _ (is_32 4 c.args.d.now _ _ _ c.in-Got-two.is c.read_u32-two.ensures) (no-32 8 c.args.d.now _ c.in_default-three.is c.read_u32-three.ensures)
+pub returns-in_err-slip : goal.returns-in_err-slip
+unfolding message
+returns-in_err-slip c =
+    let a = found ((num 4).parse c.args.d.now) _ _ _ c.in_ok-number.was c.read.ensures in
+    let b = found_at ((num 4).parse) c.in_ok-number.a c.args.d.now _ _ _ c.in_ok-timeout.was c.read-2.ensures in
+    let e = missed_at ((num 4).parse) (c.in_ok-number.a + c.in_ok-timeout.b) c.args.d.now (λ n. n) _ c.in_err-slip.was c.read-3.ensures in
+    c.from_residual-in_err-slip.ensures ∙ rw (a, b, drop-drop, e)
 
 pub returns : goal.returns
-returns c = message-4 c.args.d.now _ (is-32-first c.args.d.now _ _ _ c.in-Got.is c.read_u32-one.ensures) _ (is_32 4 c.args.d.now _ _ _ c.in-Got-two.is c.read_u32-two.ensures) _ (is_32 8 c.args.d.now _ _ _ c.in-Got-three.is c.read_u32-three.ensures)
+unfolding message
+returns c =
+    let a = found ((num 4).parse c.args.d.now) _ _ _ c.in_ok-number.was c.read.ensures in
+    let b = found_at ((num 4).parse) c.in_ok-number.a c.args.d.now _ _ _ c.in_ok-timeout.was c.read-2.ensures in
+    let e = found_at ((num 4).parse) (c.in_ok-number.a + c.in_ok-timeout.b) c.args.d.now _ _ _ c.in_ok-slip.was c.read-3.ensures in
+    rw (a, b, drop-drop, e, add_assoc)

@@ -4,8 +4,8 @@ use Rattle.rows.proofs.Rules.{kept_row}
 use Rattle.rows.proofs.Steps.{accept-is}
 use Rattle.rows.proofs.calls.accept.Goals as goal
 
-pub overflow_add-count : goal.overflow_add-count
-overflow_add-count c = omega (arith, (kept_row _ c.requires.0).most)
+pub overflow_add-r : goal.overflow_add-r
+overflow_add-r c = omega (arith, (kept_row _ c.requires.0).most)
 
 pub overflow_add-result : goal.overflow_add-result
 overflow_add-result c = omega (arith, (kept_row _ c.requires.0).most)

@@ -3,6 +3,8 @@ use mathlib.Core.Path.{◌≡◌, refl}
 use native.Mathlib.Omega.{arith}
 use borrow.Author.Rules.{rules}
 use lib.ListN.{length}
+use Rattle.std.specs.Prelude.{Some}
+use Rattle.refusals.specs.declared.Refusal.{Refusal}
 use Rattle.machine.specs.Machine.{run}
 use Rattle.talk.specs.declared.Event.{Event}
 use Rattle.talk.specs.Answer as talk
@@ -14,7 +16,7 @@ use Rattle.session.proofs.Steps.{silent-as, told-as, line_quiet, line-whole, lin
 use Rattle.session.proofs.pieces.listen.Goals as goal
 
 pub returns-then-room-n : goal.returns-then-room-n
-returns-then-room-n c = silent-as (run feed nothing 0 c.args.s c.args.piece.now) _ (Event.End (record { reason = 1 })) _ closed _ c.args.reply.now (line-long c.args.s c.args.piece.now c.before_byte-part.result.now c.requires.0 c.requires.1 c.before_byte-part.ensures (search rules)) refl c.too_long.ensures
+returns-then-room-n c = silent-as (run feed nothing 0 c.args.s c.args.piece.now) _ (Event.End (record { reason = Some Refusal.LineMalformed })) _ closed _ c.args.reply.now (line-long c.args.s c.args.piece.now c.before_byte-part.result.now c.requires.0 c.requires.1 c.before_byte-part.ensures (search rules)) refl c.too_long.ensures
 
 pub returns-then-n-piece : goal.returns-then-n-piece
 returns-then-n-piece c = let long : length c.args.s.line ≡ 512 = search rules in

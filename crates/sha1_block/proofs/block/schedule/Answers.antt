@@ -6,18 +6,17 @@ use Rattle.sha1_block.proofs.block.schedule.Goals as goal
 
 pub loop-t-init : goal.loop-t-init
 unfolding fips.schedule
-loop-t-init c = (search rules, refl, refl)
+loop-t-init c = (refl, refl)
 
 pub loop-t-preserved : goal.loop-t-preserved
 loop-t-preserved c = (
-  omega arith,
-  rw length-set c.loop-t.invariant.1,
-  more _ c.loop-t.w c.loop-t.t _ (search rules) c.loop-t.invariant.2
+  rw length-set c.loop-t.invariant.0,
+  more _ c.loop-t.w c.loop-t.t _ (search rules) c.loop-t.invariant.1
       (c.word.ensures ∙ word-part c.args.s.now c.args.at 64 (4 * c.loop-t.t) (omega arith) ∙ early _ _ _ c.loop-t-test.true),
 )
 
 pub loop-t-2-preserved : goal.loop-t-2-preserved
-loop-t-2-preserved c = (omega arith, omega arith, rw length-set c.loop-t-2.invariant.2, more _ c.loop-t-2.w c.loop-t-2.t _ (search rules) c.loop-t-2.invariant.3 (c.mix.ensures ∙ late _ _ _ c.loop-t-2.invariant.0))
+loop-t-2-preserved c = (rw length-set c.loop-t-2.invariant.0, more _ c.loop-t-2.w c.loop-t-2.t _ (search rules) c.loop-t-2.invariant.1 (c.mix.ensures ∙ late _ _ _ c.loop-t-2.auto.t))
 
 pub returns : goal.returns
-returns c = let e : c.loop-t-2.t ≡ 80 = omega arith in sym (take_all c.loop-t-2.t c.loop-t-2.w (omega arith)) ∙ c.loop-t-2.invariant.3 ∙ ap (fips.schedule _) e
+returns c = let e : c.loop-t-2.t ≡ 80 = omega arith in sym (take_all c.loop-t-2.t c.loop-t-2.w (omega arith)) ∙ c.loop-t-2.invariant.1 ∙ ap (fips.schedule _) e

@@ -1,16 +1,10 @@
 -- Word by word: what is filled is the schedule's beginning.
-use Rattle.std.proofs.Common.{◌≡◌, ◌-◌, ◌≤◌, length, take, drop}
+use Rattle.std.proofs.Common.{◌≡◌, length, take, drop}
 use Rattle.sha1_block.specs.Block as fips
 use Rattle.sha1_block.proofs.block.schedule.Given as goal
 
 abbrev pub invariant-loop-t : goal.invariant-loop-t
-invariant-loop-t l = (l.t ≤ 16) × (length l.w ≡ 80) × (take l.t l.w ≡ fips.schedule (take 64 (drop l.at l.s)) l.t)
-
-abbrev pub decreases-loop-t : goal.decreases-loop-t
-decreases-loop-t l = 16 - l.t
+invariant-loop-t l = (length l.w ≡ 80) × (take l.t l.w ≡ fips.schedule (take 64 (drop l.at l.s)) l.t)
 
 abbrev pub invariant-loop-t-2 : goal.invariant-loop-t-2
-invariant-loop-t-2 l = (16 ≤ l.t) × (l.t ≤ 80) × (length l.w ≡ 80) × (take l.t l.w ≡ fips.schedule (take 64 (drop l.at l.s)) l.t)
-
-abbrev pub decreases-loop-t-2 : goal.decreases-loop-t-2
-decreases-loop-t-2 l = 80 - l.t
+invariant-loop-t-2 l = (length l.w ≡ 80) × (take l.t l.w ≡ fips.schedule (take 64 (drop l.at l.s)) l.t)

@@ -5,4 +5,4 @@ use Rattle.sha1_digest.proofs.Ids.{first-bits}
 use Rattle.sha1_digest.proofs.Sha1.first_28_bits.Goals as goal
 
 pub returns : goal.returns
-returns c = first-bits c.finish-h.result (search rules) ∙ ap id_number c.finish-h.ensures
+returns c = first-bits c.finish.result (search rules) ∙ ap id_number c.finish.ensures

@@ -7,4 +7,5 @@ use Rattle.sha1_digest.proofs.pieces.close.Goals as goal
 
 pub returns : goal.returns
 returns c = let e : (c.args.total * 2 ^ 3) % 2 ^ 64 ≡ 8 * c.args.total % 2 ^ 64 = omega arith in
-    ap (λ st. st.h) (c.put-end.ensures ∙ ap (fed_all c.args.st) (ap fips.big64 e ∙ low-bytes (8 * c.args.total)))
+    let b : c.to_be_bytes.result ≡ fips.big64 ((c.args.total * 2 ^ 3) % 2 ^ 64) = c.to_be_bytes.ensures in
+    ap (λ st. st.h) (c.put.ensures ∙ ap (fed_all c.args.st) b ∙ ap (fed_all c.args.st) (ap fips.big64 e ∙ low-bytes (8 * c.args.total)))

@@ -1,25 +1,35 @@
 -- 40, then 14, then the row.
-use mathlib.Core.Path.{sym, ◌∙◌}
-use borrow.Author.Tests.{lt-ltb, le-ltb, not-true, not-false}
-use lib.ListN.{get_or}
-use Rattle.octets.proofs.Tests.{if_yes, if_no, and_both, and-next, and-not-left, no_true, no_false}
+use mathlib.Core.Path.{◌≡◌, sym, ap, ◌∙◌}
+use mathlib.Core.Bool.{false}
+use Prim.Native.Nat.{ℕ, ◌<◌}
+use native.Mathlib.Omega.{arith}
+use lib.ListN.{length}
+use borrow.Author.Tests.{lt-ltb}
+use Rattle.std.specs.Option.{is_some}
+use Rattle.octets.specs.Words.{◌<?◌}
+use Rattle.octets.proofs.Tests.{if_yes, and-next, and-not-left, no_false}
+use Rattle.slots.specs.declared.Slot.{Slot}
 use Rattle.streams.specs.Table.{past_slot}
 use Rattle.streams.specs.Calls.{row_at}
-use Rattle.streams.proofs.Lookups.{test_good}
+use Rattle.streams.proofs.Lookups.{kept, test_broken, test_good, shown-open, shown-none}
 use Rattle.streams.proofs.Table.row_at.Goals as goal
 
-pub returns-then-not-r : goal.returns-then-not-r
+pub returns-in_default : goal.returns-in_default
 unfolding row_at
-returns-then-not-r c = c.unseen.ensures ∙ sym (if_yes _ _ _ (no_false _ (sym (test_good c.args.self _ _ c.test-r.ensures) ∙ not-true _ c.if-not-r.true)))
+returns-in_default c = sym (if_yes _ _ _ (no_false _ (test_broken c.args.self _ c.in_default.ensures)))
 
-pub returns-then-number-ge32 : goal.returns-then-number-ge32
-unfolding row_at
-returns-then-number-ge32 c = c.unseen-then-number-ge32.ensures ∙ sym (if_no _ _ _ (no_true _ (sym (test_good c.args.self _ _ c.test-r.ensures) ∙ not-false _ c.if-not-r.false)) ∙ if_no _ _ _ (and-not-left _ _ (le-ltb _ _ c.if-number-ge32.true)))
+pub returns-in-Some-get : goal.returns-in-Some-get
+returns-in-Some-get c = let k = test_good c.args.self _ _ c.in-Some.ensures in
+    let h = c.in-Some-get.ensures.lookup in
+    shown-open c.args.self c.args.number c.in-Some-get.x.now k (omega (arith, h.3.0, (kept c.args.self k).long)) (h.3.1 past_slot) c.if-x.true
 
-pub returns-then-not-x : goal.returns-then-not-x
-unfolding row_at
-returns-then-not-x c = c.unseen-then-not-x.ensures ∙ sym (if_no _ _ _ (no_true _ (sym (test_good c.args.self _ _ c.test-r.ensures) ∙ not-false _ c.if-not-r.false)) ∙ if_no _ _ _ (and-next _ _ (lt-ltb _ _ c.if-number-ge32.false) ∙ not-true (get_or c.args.self.slots c.args.number past_slot).is_open c.if-not-x.true))
+pub returns-in_default-get : goal.returns-in_default-get
+returns-in_default-get c = let k = test_good c.args.self _ _ c.in-Some.ensures in
+    let h = c.in-Some-get.ensures.lookup in
+    let b : c.args.number < 32 = omega (arith, h.3.0, (kept c.args.self k).long) in
+    shown-none c.args.self c.args.number k (and-next _ _ (lt-ltb _ _ b) ∙ sym (ap (λ (x : Slot). x.is_open) (h.3.1 past_slot)) ∙ c.if-x.false)
 
-pub returns : goal.returns
-unfolding row_at
-returns c = sym (if_no _ _ _ (no_true _ (sym (test_good c.args.self _ _ c.test-r.ensures) ∙ not-false _ c.if-not-r.false)) ∙ if_yes _ _ _ (and_both _ _ (lt-ltb _ _ c.if-number-ge32.false) (not-false (get_or c.args.self.slots c.args.number past_slot).is_open c.if-not-x.false)))
+pub returns-in_default-get-2 : goal.returns-in_default-get-2
+returns-in_default-get-2 c = let k = test_good c.args.self _ _ c.in-Some.ensures in
+    let e : (c.args.number <? length c.args.self.slots) ≡ false = sym c.get.ensures.lookup.0 ∙ ap is_some c.in_default-get.is in
+    shown-none c.args.self c.args.number k (and-not-left _ _ (ap (λ (n : ℕ). c.args.number <? n) (sym (kept c.args.self k).long) ∙ e))

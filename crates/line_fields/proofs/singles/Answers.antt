@@ -1,6 +1,0 @@
--- The values of the group, each at its place.
-use mathlib.Core.Path.{◌∙◌}
-use Rattle.line_fields.proofs.singles.Goals as goal
-
-pub returns : goal.returns
-returns c = c.read_singles.ensures ∙ rw (c.value.ensures, c.value-2.ensures, c.value-3.ensures)

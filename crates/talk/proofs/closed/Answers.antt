@@ -1,8 +1,0 @@
--- A closed session.
-use Rattle.sha1_digest.specs.Machine.{fresh}
-use Rattle.talk.specs.Sessions.{no_terms}
-use Rattle.talk.proofs.Turns.{entered-is}
-use Rattle.talk.proofs.closed.Goals as goal
-
-pub returns : goal.returns
-returns c = entered-is 3 _ no_terms _ fresh _ c.no_terms.ensures c.new.ensures c.entered.ensures
