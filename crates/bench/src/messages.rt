@@ -1,5 +1,4 @@
 // The commands that keep nothing: hashes and ids, and lines and datagrams, read, or read and written again.
-use crate::arguments::Bytes;
 use crate::buffers::{self, ROOM};
 use crate::command::Command;
 use crate::{fields, say};
@@ -28,8 +27,8 @@ pub(crate) fn obey(out: &impl Print, command: Command) -> io::Result<()> {
             Ok(read) => fields::say_datagram(out, &read),
             Err(refusal) => say::refused(out, refusal),
         },
-        Command::Reline(line, len) => reline(out, line, len),
-        Command::Redatagram(datagram, len) => redatagram(out, datagram, len),
+        Command::Reline(line, len) => reline(out, line.decoded(&mut room), len),
+        Command::Redatagram(bytes, len) => redatagram(out, bytes.decoded(&mut room), len),
         _ => Ok(()),
     }
 }
@@ -40,10 +39,9 @@ fn sha1(out: &impl Print, h: Hash) -> io::Result<()> {
 }
 
 // A line, read and written again into `len` lent bytes.
-fn reline(out: &impl Print, line: Bytes, len: usize) -> io::Result<()> {
-    let mut from = [0u8; ROOM];
+fn reline(out: &impl Print, line: &[u8], len: usize) -> io::Result<()> {
     let mut room = [0u8; ROOM];
-    match node::read_line(line.decoded(&mut from)) {
+    match node::read_line(line) {
         Ok(line) => {
             let written = node::write_line(line, buffers::first(&mut room, len));
             say_again(out, written, &room)
@@ -53,10 +51,8 @@ fn reline(out: &impl Print, line: Bytes, len: usize) -> io::Result<()> {
 }
 
 // A datagram, read and written again into `len` lent bytes.
-fn redatagram(out: &impl Print, datagram: Bytes, len: usize) -> io::Result<()> {
-    let mut from = [0u8; ROOM];
+fn redatagram(out: &impl Print, bytes: &[u8], len: usize) -> io::Result<()> {
     let mut room = [0u8; ROOM];
-    let bytes = datagram.decoded(&mut from);
     match node::read_datagram(bytes) {
         Ok(read) => {
             let payload = node::payload(bytes, read.payload_at, read.payload_len);

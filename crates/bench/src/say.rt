@@ -2,6 +2,9 @@
 use node::Refusal;
 use std::io;
 
+// The digits of `%XX`, in capitals.
+const DIGITS: [u8; 16] = *b"0123456789ABCDEF";
+
 // `refused` and the number of a refusal.
 pub(crate) fn refused(out: &impl Print, refusal: Refusal) -> io::Result<()> {
     print!(out; "refused {}", refusal.number())
@@ -20,7 +23,7 @@ pub(crate) fn bytes(out: &impl Print, word: &str, bytes: &[u8]) -> io::Result<()
     print!(out; "{word}")?;
     match bytes {
         [] => print!(out; "-"),
-        [byte @ (b'-' | b'~')] => print!(out; "%{byte:02X}"),
+        [byte @ (b'-' | b'~')] => escaped(out, *byte),
         _ => spelled(out, bytes),
     }
 }
@@ -36,12 +39,19 @@ fn spelled(out: &impl Print, bytes: &[u8]) -> io::Result<()> {
         match run {
             [plain @ .., byte] if !is_plain(*byte) => {
                 out.write_all(plain)?;
-                print!(out; "%{byte:02X}")?;
+                escaped(out, *byte)?;
             }
             plain => out.write_all(plain)?,
         }
     }
     Ok(())
+}
+
+// A byte as `%XX`. Its two digits are looked up: an answer may have thousands of such bytes, and to format each costs ten times as much.
+fn escaped(out: &impl Print, byte: u8) -> io::Result<()> {
+    let high = DIGITS[usize::from(byte / 16)];
+    let low = DIGITS[usize::from(byte % 16)];
+    out.write_all(&[b'%', high, low])
 }
 
 // Whether a byte stands for itself: those from 0x21 to 0x7E do, but `%`.

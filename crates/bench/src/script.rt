@@ -70,11 +70,14 @@ fn obey(
         Command::Lend(_, _) | Command::Store(_) | Command::Fill(_) | Command::Peek(_, _, _) => {
             buffers::obey(out, command, &mut kept.lent, memory, replies)
         }
+        Command::Offer(_, _)
+        | Command::Take(_, _)
+        | Command::Force(_, _)
+        | Command::Close(_)
+        | Command::Save(_)
+        | Command::Load(_) => stream_calls::obey(out, command, &mut kept.table),
         Command::Bad => print!(out; "bad command"),
-        _ => {
-            messages::obey(out, command)?;
-            stream_calls::obey(out, command, &mut kept.table)
-        }
+        _ => messages::obey(out, command),
     }
 }
 

@@ -1,6 +1,6 @@
 -- The head: the groups that it is made of, and that it has at most 2,109 bytes.
 use Prim.Native.Nat.{ℕ, ◌+◌, ◌≤◌}
-use mathlib.Core.Path.{◌≡◌, sym, ap, ◌∙◌}
+use mathlib.Core.Path.{◌≡◌, refl, sym, ap, ◌∙◌}
 use Rattle.std.proofs.Common.{Option, Some, None}
 use mathlib.Core.Bool.{true, false}
 use mathlib.Core.List.{List, [], ◌++◌}
@@ -14,7 +14,7 @@ use Rattle.octets.proofs.NumberLaws.{length-bytes}
 use Rattle.layout.specs.declared.Flags.{Flags}
 use Rattle.layout.specs.declared.Datagram.{Datagram}
 use Rattle.layout.specs.Rules.{valid}
-use Rattle.layout.specs.Layout.{flags, hex_id, hops, opening, way, message_flags, opening_of, way_of, layout}
+use Rattle.layout.specs.Layout.{flags, hex_id, hops, opening, ends, way, options, message_flags, opening_of, ends_of, way_of, options_of, layout}
 use Rattle.datagram_bytes.specs.Bytes.{payload_place, Typed}
 use Rattle.datagram_bytes.proofs.Good.{layout-good}
 use Rattle.datagram_bytes.proofs.Sizes.{fields-size}
@@ -22,6 +22,12 @@ use Rattle.datagram_head.specs.Head.{head_bytes, head_length, valid_head}
 use Rattle.datagram_head.specs.Steps.{Put}
 
 -- ---- the head
+
+-- the fields are the four groups, one after the other
+pub in-groups : (m : Datagram) → layout.print m ≡ opening.print (opening_of m) ++ ((ends (message_flags m)).print (ends_of m)
+    ++ ((way (message_flags m)).print (way_of m) ++ (options (message_flags m)).print (options_of m)))
+unfolding layout
+in-groups m = refl
 
 -- flags, id, salt and ttl, by the flags that the code counted and the ttl that it made wide
 pub in-opening : (m : Datagram) (f : Flags) (t : Option ℕ) → f ≡ message_flags m → t ≡ m.fields.ttl

@@ -6,8 +6,8 @@ ghost use Rattle.datagram_lists.specs.Found.{hops_from};
 
 use layout::Hops;
 
-// As many hops, of which the first has the place `at`: one hop, and the shorter list behind it. The hop is stored in the array that the shorter
-// list came in.
+// As many hops, of which the first has the place `at`: one hop, and the shorter list behind it. The shorter list's answer is changed where it
+// stands and handed on: taken out and put together again, its array would be copied at each hop.
 fn read_hops(d: &[u8], count: usize, at: usize) -> Option<(Hops, usize)>
     requires { at + count ≤ 16 }
     ensures { result ≡ read_as (λ h. h) (hops_from count at d.now) }
@@ -19,9 +19,12 @@ fn read_hops(d: &[u8], count: usize, at: usize) -> Option<(Hops, usize)>
     }
     let (hop, n1) = datagram_texts::read_hop(d)?;
     let d1 = &d[n1..];
-    let (mut hops, n2) = read_hops(d1, count - 1, at + 1)?;
-    hops.items[at] = hop;
-    Some((hops, n1 + n2))
+    let mut found = read_hops(d1, count - 1, at + 1);
+    if let Some((hops, used)) = &mut found {
+        hops.items[at] = hop;
+        *used += n1;
+    }
+    found
 }
 
 // The source route or the traversed hops, where the flag is set: 0 to 16 hops.

@@ -13,7 +13,7 @@ pub(crate) fn src_rule(src: Option<CallText>) -> bool
 pub(crate) fn fragment_rule(fragment: Option<Fragment>) -> bool
     ensures { result ≡ if_some fragment_good fragment }
 {
-    fragment.is_none_or(|f| field_rules::fragment_rule(f.mid, f.index, f.total))
+    field_rules::fragment_rule(fragment.map(|f| (f.mid, f.index, f.total)))
 }
 
 #[tactic(auto, unfolding(crate::specs::Rules::stream_in))]

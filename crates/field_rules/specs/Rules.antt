@@ -14,6 +14,10 @@ ttl_in v = between 1 2147483647 v
 unfoldable pub fragment_in : ℕ → ℕ → ℕ → Bool
 fragment_in mid n m = id_in mid and (between 2 65535 m and between 1 m n)
 
+-- the same of the three together
+abbrev pub numbers_in : ℕ × ℕ × ℕ → Bool
+numbers_in f = fragment_in f.0 f.1 f.2
+
 -- where there is a value, the rule holds of it
 abbrev pub if_some : {A : Type 0} → (A → Bool) → Option A → Bool
 if_some rule None = true

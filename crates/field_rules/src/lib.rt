@@ -3,7 +3,7 @@
 #![tactic(auto)]
 
 ghost use Rattle.std.specs.Prelude.{◌≡◌};
-ghost use Rattle.field_rules.specs.Rules.{id_in, ttl_in, fragment_in, if_some};
+ghost use Rattle.field_rules.specs.Rules.{id_in, ttl_in, numbers_in, if_some};
 
 // An id, or a master id.
 #[tactic(auto, unfolding(crate::specs::Rules::id_in))]
@@ -26,10 +26,14 @@ pub fn ttl_rule(ttl: Option<u32>) -> bool
     ttl <= 2147483647
 }
 
+// A fragment's master id, and N of M.
 #[tactic(auto, unfolding(crate::specs::Rules::fragment_in))]
-pub fn fragment_rule(mid: u32, index: u16, total: u16) -> bool
-    ensures { result ≡ fragment_in mid index total }
+pub fn fragment_rule(fragment: Option<(u32, u16, u16)>) -> bool
+    ensures { result ≡ if_some numbers_in fragment }
 {
+    let Some((mid, index, total)) = fragment else {
+        return true;
+    };
     if !id_rule(mid) {
         return false;
     }

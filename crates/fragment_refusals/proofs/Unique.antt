@@ -4,6 +4,8 @@ use Rattle.octets.specs.Unique.{One, Free}
 use Rattle.refusals.proofs.Told.{one-test}
 use Rattle.fragment_refusals.proofs.in_range.Kinds as in-range-kinds
 use Rattle.fragment_refusals.proofs.in_range.Reads as in-range-reads
+use Rattle.fragment_refusals.proofs.refuses_call.Kinds as refuses-call-kinds
+use Rattle.fragment_refusals.proofs.refuses_call.Reads as refuses-call-reads
 use Rattle.fragment_refusals.proofs.refuses_key.Kinds as refuses-key-kinds
 use Rattle.fragment_refusals.proofs.refuses_key.Reads as refuses-key-reads
 use Rattle.fragment_refusals.proofs.refuses_joining.Kinds as refuses-joining-kinds
@@ -17,8 +19,14 @@ in-range-one κs a x y v w p q = (p ∙ sym q, refl)
 pub in-range-free : Free 0 in-range-kinds.ps in-range-reads.Pre
 in-range-free κs a = tt
 
+pub refuses-call-one : One 0 refuses-call-kinds.ps refuses-call-kinds.r refuses-call-reads.Post
+refuses-call-one κs a x y v w p q = (one-test x y (p ∙ sym q), refl)
+
+pub refuses-call-free : Free 0 refuses-call-kinds.ps refuses-call-reads.Pre
+refuses-call-free κs a = tt
+
 pub refuses-key-one : One 0 refuses-key-kinds.ps refuses-key-kinds.r refuses-key-reads.Post
-refuses-key-one κs a x y v w p q = (one-test x y (p ∙ sym q), refl)
+refuses-key-one κs a x y v w p q = (p ∙ sym q, refl)
 
 pub refuses-key-free : Free 0 refuses-key-kinds.ps refuses-key-reads.Pre
 refuses-key-free κs a = tt

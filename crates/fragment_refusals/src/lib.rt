@@ -16,7 +16,7 @@ pub fn in_range(number: usize, total: usize, len: usize) -> bool
 }
 
 // The tests that every call on a key makes first: 40, 23, the refusal of the key, where there is one, 17.
-pub fn refuses_key(
+pub fn refuses_call(
     broken: bool,
     other_length: bool,
     named: Option<Refusal>,
@@ -37,6 +37,16 @@ pub fn refuses_key(
         return Err(Refusal::FragmentMalformed);
     }
     Ok(())
+}
+
+// The same tests by number, 0 where nothing refuses: the number that refuses the key may be any, and 17 is told only where there is none.
+pub fn refuses_key(broken: bool, other_length: bool, named: u8, outside: bool) -> u8
+    ensures { result ≡ refuses_key broken other_length named outside }
+{
+    match refuses_call(broken, other_length, None, named == 0 && outside) {
+        Ok(()) => named,
+        Err(refusal) => refusal.number(),
+    }
 }
 
 // A fragment for a group that is there: 18, then 19.

@@ -97,6 +97,10 @@ passed t size named r e = go (keeps_groups t) (size =? store_size) (0 <? refusal
     go true true false false p q s u z = absurd (omega arith)
     go true true false true p q s u z = record { keeps = p; sized = eqb-true size store_size q; known = omega (arith, ltb-false 0 (refusal_in named) s); inside = u }
 
+-- past the gate the groups are 4
+pub gate-long : (t : Groups) (size : ℕ) (named : Result Key Refusal) (r : Bool) (n : ℕ) → n ≡ gate t size named r → n ≤ 0 → length t.items ≡ 4
+gate-long t size named r n e h = (kept t (passed t size named r (omega (arith, e))).keeps).long
+
 -- ---- add, from what the code found
 
 module _ (t : Groups) (size : ℕ) (named : Result Key Refusal) (f : Fragment) (r : Bool) (n : ℕ) (q : r ≡ in_range f) (e : n ≡ gate t size named r) where

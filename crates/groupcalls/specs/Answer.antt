@@ -39,13 +39,9 @@ says f r = record { answer = saying f r.answer; after = r.groups }
 abbrev pub refuse : ℕ → Groups → Outcome
 refuse n t = record { answer = refused n; after = t }
 
--- the answer of a call on the groups t: what was made of them, with the groups after it, or a refusal
-abbrev pub served : {A : Type 0} → Groups → Result (A × Groups) Refusal → Served A
-served t (Ok p) = record { answer = Ok p.0; groups = p.1 }
-served t (Err r) = record { answer = Err r; groups = t }
-
-abbrev pub told : {A : Type 0} → (A → Said) → Groups → Result (A × Groups) Refusal → Outcome
-told f t m = says f (served t m)
+-- what a call's steps answer, with the groups that they leave
+abbrev pub told : {A : Type 0} → (A → Said) → Result A Refusal → Groups → Outcome
+told f r t = says f (record { answer = r; groups = t })
 
 -- whether a group is complete, or the number of a refusal
 pub data Stand : Type 0 where

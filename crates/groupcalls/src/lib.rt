@@ -52,7 +52,12 @@ pub fn add(
     ensures { says added result ≡ add groups size (named_of (option_map (λ s. s.now) originator.entry) master) f }
 {
     let named = groupkeys::name(originator, master);
-    calls::served(groups, calls::try_add(groups, size, named, f))
+    let mut after = groups;
+    let answer = calls::try_add(&mut after, size, named, f);
+    Served {
+        answer,
+        groups: after,
+    }
 }
 
 // Frees the complete group of the key, if what it holds fits into the room that there is.
@@ -66,14 +71,29 @@ pub fn collect(
     ensures { says gathered result ≡ collect groups size (named_of (option_map (λ s. s.now) originator.entry) master) room }
 {
     let named = groupkeys::name(originator, master);
-    calls::served(groups, calls::try_collect(groups, size, named, room))
+    let mut after = groups;
+    let answer = calls::try_collect(&mut after, size, named, room);
+    Served {
+        answer,
+        groups: after,
+    }
 }
 
 // Frees each incomplete group whose first fragment came 604,800 s ago or more.
+#[tactic(auto, unfolding(crate::specs::Calls::sweep))]
 pub fn sweep_groups(groups: Groups, time: u32) -> Served<()>
     ensures { says done result ≡ sweep groups time }
 {
-    calls::served(groups, calls::try_sweep(groups, time))
+    if !groups.keep_rules() {
+        return Served {
+            answer: Err(Refusal::StateBroken),
+            groups,
+        };
+    }
+    Served {
+        answer: Ok(()),
+        groups: groupsweep::sweep_all(groups, time),
+    }
 }
 
 // Whether group `number`, 0 to 3, is complete.

@@ -54,14 +54,14 @@ impl Groups {
     pub fn keep_rules(self) -> bool
         ensures { result ≡ keeps_groups self }
     {
-        rules::each_keeps(self) && rules::keys_differ(self)
+        rules::each_keeps(&self) && rules::keys_differ(&self)
     }
 
     // The group that has the key.
     pub fn find(self, key: Key) -> Option<usize>
         ensures { result ≡ position (has_key key) self.items }
     {
-        self.items.iter().position(|x| rules::has_key(key, *x))
+        self.items.iter().position(|x| rules::has_key(key, x))
     }
 
     // The lowest free group.

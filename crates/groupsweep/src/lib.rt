@@ -6,24 +6,25 @@ ghost use Rattle.groupsweep.specs.Sweep.{swept_group, swept_all, stands_complete
 
 use groups::{Group, Groups};
 
-// The group, or a free one in its place where it is incomplete and old. An earlier clock means age 0.
+// Frees the group where it is incomplete and old. An earlier clock means age 0.
 #[tactic(auto, unfolding(crate::specs::Sweep::swept_group))]
-fn swept(x: Group, time: u32) -> Group
-    ensures { result ≡ swept_group time x }
+fn sweep(x: &mut Group, time: u32)
+    ensures { x.new ≡ swept_group time x.old }
 {
-    if x.is_open && !groups::is_complete(x) && time.saturating_sub(x.began) >= 604800 {
-        return groups::free_group();
+    if x.is_open && !groups::is_complete(*x) && time.saturating_sub(x.began) >= 604800 {
+        *x = groups::free_group();
     }
-    x
 }
 
 // Frees each incomplete group whose first fragment came 604,800 s ago or more.
 pub fn sweep_all(groups: Groups, time: u32) -> Groups
     ensures { result ≡ swept_all groups time }
 {
-    Groups {
-        items: groups.items.map(|x| swept(x, time)),
+    let mut items = groups.items;
+    for x in items.iter_mut() {
+        sweep(x, time);
     }
+    Groups { items }
 }
 
 // Whether group `number`, 0 to 3, is open and complete.

@@ -75,23 +75,23 @@ fn are_hops(h: &Hops) -> bool
 }
 
 // Whether hops that may be absent are hops where they are there.
-fn hops_rule(hops: Option<Hops>) -> bool
-    ensures { result ≡ if_some hops_in hops }
+fn hops_rule(hops: &Option<Hops>) -> bool
+    ensures { result ≡ if_some hops_in hops.now }
 {
-    hops.is_none_or(|h| are_hops(&h))
+    hops.as_ref().is_none_or(|h| are_hops(h))
 }
 
 // Whether the fields that only a datagram has keep their rules: link source, source route and traversed hops.
-fn own_rules(m: &Datagram) -> bool
+pub fn own_rules(m: &Datagram) -> bool
     ensures { result ≡ if_some call_in m.now.link and (if_some hops_in m.now.route and if_some hops_in m.now.hops) }
 {
     if !m.link.is_none_or(|t| envelope::is_call(t)) {
         return false;
     }
-    if !hops_rule(m.route) {
+    if !hops_rule(&m.route) {
         return false;
     }
-    hops_rule(m.hops)
+    hops_rule(&m.hops)
 }
 
 // Whether the message is one that a datagram may carry.

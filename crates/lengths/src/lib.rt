@@ -1,7 +1,7 @@
-// Lengths and parts, once for all crates: a length cut to an array, the first bytes of a text, whether a rest is zero.
+// Lengths and parts, once for all crates: a length cut to an array, the first bytes of a text, whether a rest is zero, and numbers made wider.
 #![tactic(auto)]
 
-ghost use Rattle.std.specs.Prelude.{◌≡◌, ◌≤◌, min, take, drop, fold};
+ghost use Rattle.std.specs.Prelude.{◌≡◌, ◌<◌, ◌≤◌, min, take, drop, fold};
 ghost use Rattle.std.specs.Int.Bits.{bit_or};
 ghost use Rattle.octets.specs.Bytes.{all_zero};
 
@@ -31,4 +31,24 @@ pub fn zero_from(s: &[u8], n: usize) -> bool
     ensures { result ≡ all_zero (drop n s.now) }
 {
     gathered(&s[n.min(s.len())..]) == 0
+}
+
+// ---- the same number in a wider type; its bound spares the caller a proof
+
+pub fn wide16(x: u16) -> usize
+    ensures { (result ≡ x) × (result < 65536) }
+{
+    usize::from(x)
+}
+
+pub fn wide32(x: u32) -> u64
+    ensures { (result ≡ x) × (result < 4294967296) }
+{
+    u64::from(x)
+}
+
+pub fn wide_size(x: usize) -> u64
+    ensures { result ≡ x }
+{
+    x as u64
 }

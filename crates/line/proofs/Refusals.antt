@@ -1,6 +1,6 @@
 -- What reading a line answers, test by test: the lowest number that refuses it, or the line.
-use Rattle.std.specs.Prelude.{◌-◌, length, take, Option, Some, None, Result, Ok, Err, if◌then◌else◌}
-use Rattle.std.specs.Option.{option_map_or, option_map, ok_or}
+use Rattle.std.specs.Prelude.{◌-◌, length, take, Some, None, Ok, Err, if◌then◌else◌}
+use Rattle.std.specs.Option.{option_map_or, option_map}
 use Prim.Native.Nat.{ℕ, zero, suc}
 use mathlib.Core.Path.{◌≡◌, refl, ap, sym, ◌∙◌}
 use mathlib.Core.Bool.{Bool, true, false, not}
@@ -27,23 +27,6 @@ use Rattle.line_frame.proofs.Frames.{head_none, head_some}
 use Rattle.line.specs.Reading.{id_word, rest_of, line_of, well_formed, chk_right, refusal_of, Outcome, Read, says, read_as, read_of}
 use Rattle.line.specs.Steps.{right_chk}
 use Rattle.line.proofs.Distinct.{head_good, well-is}
-
--- ---- what was asked for, told from what was made of it
-
-module _ {A E : Type 0} (o : Option A) (e : E) (r : Result A E) (is-r : r ≡ ok_or o e) where
-  pub had_none : (x : E) → r ≡ Err x → (o ≡ None) × (x ≡ e)
-  had_none x f = go o (sym is-r ∙ f)
-    where
-      go : (o : Option A) → ok_or o e ≡ Err x → (o ≡ None) × (x ≡ e)
-      go None g = (refl, cc)
-      go (Some a) g = cc
-
-  pub had_some : (a : A) → r ≡ Ok a → o ≡ Some a
-  had_some a f = go o (sym is-r ∙ f)
-    where
-      go : (o : Option A) → ok_or o e ≡ Ok a → o ≡ Some a
-      go None g = cc
-      go (Some x) g = cc
 
 not_is : (b : Bool) → not b ≡ no b
 not_is true = refl

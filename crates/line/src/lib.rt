@@ -27,12 +27,17 @@ fn is_right(s: &[u8], chk: Option<u16>) -> bool
     }
 }
 
-// Reads a line, which is given without its LF.
+// Reads a line, which is given without its LF. What a `?` hands on is a whole answer, in room of its own that is cleared at the start, so only
+// the last test leaves by one.
 pub fn read_line(s: &[u8]) -> Result<Line, Refusal>
     ensures { says result ≡ read_of s.now }
 {
-    let id = line_frame::read_head(s).ok_or(Refusal::LineMalformed)?;
-    let v = line_fields::read_values(id, line_frame::rest(s)).ok_or(Refusal::LineMalformed)?;
+    let Some(id) = line_frame::read_head(s) else {
+        return Err(Refusal::LineMalformed);
+    };
+    let Some(v) = line_fields::read_values(id, line_frame::rest(s)) else {
+        return Err(Refusal::LineMalformed);
+    };
     let fields = v.fields;
     let valid = envelope::is_valid(fields);
     let right = is_right(s, v.chk);

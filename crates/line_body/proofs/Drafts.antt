@@ -1,5 +1,5 @@
 -- Tokens added to a draft one after the other: they are added as one text.
-use Rattle.std.specs.Prelude.{Option, Some}
+use Rattle.std.specs.Prelude.{Option, Some, None}
 use Rattle.std.specs.Option.{option_map}
 use Prim.Native.Nat.{ℕ, ◌+◌, ◌<◌, min}
 use mathlib.Core.Path.{◌≡◌, refl, sym, ap, ◌∙◌}
@@ -14,7 +14,7 @@ use Rattle.tokens.specs.Tokens.{Token, word_of, spaced, space, equals}
 use Rattle.headers.specs.declared.Headers.{Headers}
 use Rattle.headers.proofs.Pairs.{no_header}
 use Rattle.line.specs.Writing.{choice, chosen, mid_text, part_text, header_token, header_tokens}
-use Rattle.line_draft.specs.Drafts.{added}
+use Rattle.line_draft.specs.Drafts.{draft, added, Adds}
 use Rattle.line_draft.specs.declared.Draft.{Draft}
 use Rattle.line_draft.proofs.Drafts.{add-three}
 use Rattle.line_body.specs.Steps.{key_part, add_pair, add_tokens}
@@ -52,6 +52,12 @@ pub one_token : (t : Token) (d : Draft) → added t.value (added (key_part t.key
 unfolding add_tokens
 one_token t d = refl
 
+-- ---- a field that is not there
+
+pub absent : {A : Type 0} (o : Option A) → ((x : A) → o ≡ Some x → ⊥) → o ≡ None
+absent None n = refl
+absent (Some x) n = absurd (n x refl)
+
 -- ---- headers, one after the other
 
 module _ (h : Headers) (room : length h.items ≡ 8) (i : ℕ) where
@@ -67,12 +73,27 @@ module _ (h : Headers) (room : length h.items ≡ 8) (i : ℕ) where
       ap (λ (ts : List Token). add_tokens ts d) (drop-next (header_tokens h) i (header_token no_header) k ∙ ap (λ (t : Token). t ∷ drop (i + 1) (header_tokens h)) f)
       ∙ sym (tokens_append (header_token (get_or h.items i no_header) ∷ []) (drop (i + 1) (header_tokens h)) d)
 
-  pub headed-next : i < min h.count 8 → (start d e : Draft) → add_tokens (header_tokens h) start ≡ add_tokens (drop i (header_tokens h)) d
-      → e ≡ add_tokens (header_token (get_or h.items i no_header) ∷ []) d → add_tokens (header_tokens h) start ≡ add_tokens (drop (i + 1) (header_tokens h)) e
-  headed-next l start d e g f = g ∙ header-next l d ∙ ap (add_tokens (drop (i + 1) (header_tokens h))) (sym f)
-
-  pub headed-end : i ≡ min h.count 8 → (start d : Draft) → add_tokens (header_tokens h) start ≡ add_tokens (drop i (header_tokens h)) d → d ≡ add_tokens (header_tokens h) start
+  header-end : i ≡ min h.count 8 → (d : Draft) → add_tokens (drop i (header_tokens h)) d ≡ d
   unfolding add_tokens
-  headed-end e start d g =
+  header-end e d =
       let k : drop i (header_tokens h) ≡ [] = ap (λ (n : ℕ). drop n (header_tokens h)) (e ∙ sym counted) ∙ drop-length (header_tokens h) in
-      sym (g ∙ ap (λ (ts : List Token). add_tokens ts d) k)
+      ap (λ (ts : List Token). add_tokens ts d) k
+
+-- the headers from the place i on are still to be added: what the loop keeps
+pub record Headed (h : Headers) (l : List ℕ) (at i next : ℕ) (x : List ℕ) : Type 0 where
+  pub rest-is : length l ≡ 512 → add_tokens (header_tokens h) (draft l at) ≡ add_tokens (drop i (header_tokens h)) (draft x next)
+  pub same : length x ≡ length l
+
+module _ (h : Headers) (l : List ℕ) (at : ℕ) where
+  pub headed-start : Headed h l at 0 at l
+  headed-start = record { rest-is = λ e. refl; same = refl }
+
+  module _ (room : length h.items ≡ 8) (i : ℕ) where
+    pub headed-next : i < min h.count 8 → {next r : ℕ} {x y : List ℕ} → Headed h l at i next x → Adds (add_tokens (header_token (get_or h.items i no_header) ∷ [])) x next r y → Headed h l at (i + 1) r y
+    headed-next k {next} {r} {x} {y} g a = record {
+      rest-is = λ e. g.rest-is e ∙ header-next h room i k (draft x next) ∙ ap (add_tokens (drop (i + 1) (header_tokens h))) (sym (a.draft-is (g.same ∙ e)));
+      same = a.long ∙ g.same;
+    }
+
+    pub headed-end : i ≡ min h.count 8 → {next : ℕ} {x : List ℕ} → Headed h l at i next x → Adds (add_tokens (header_tokens h)) l at next x
+    headed-end k {next} {x} g = record { draft-is = λ e. sym (g.rest-is e ∙ header-end h room i k (draft x next)); long = g.same }

@@ -1,7 +1,7 @@
 -- The body as the code puts it together is the message's.
 use Rattle.std.specs.Prelude.{Some, if◌then◌else◌}
 use Rattle.std.specs.Option.{option_map, option_to_list}
-use Prim.Native.Nat.{ℕ, ◌+◌}
+use Prim.Native.Nat.{ℕ, ◌+◌, ◌≤◌, ◌<◌}
 use mathlib.Core.Path.{◌≡◌, refl, sym, ap, ◌∙◌}
 use mathlib.Core.Bool.{Bool, true, false}
 use mathlib.Core.List.{List, [], ◌∷◌, ◌++◌, append_assoc}
@@ -20,9 +20,9 @@ use Rattle.line_groups.specs.Rules.{'p'}
 use Rattle.line.specs.Reading.{ihave}
 use Rattle.line.specs.Writing.{Choice, choice, chosen, mid_text, part_text, sid_text, sn_text, gt_text, choices_of, header_tokens, dst_token, tokens_of, body_of}
 use Rattle.line.specs.declared.Line.{Line}
-use Rattle.line_draft.specs.Drafts.{no_draft, full_draft, added}
+use Rattle.line_draft.specs.Drafts.{no_draft, full_draft, draft, added, Adds}
 use Rattle.line_draft.specs.declared.Draft.{Draft}
-use Rattle.line_draft.proofs.Drafts.{added-fits, added_full, add-append}
+use Rattle.line_draft.proofs.Drafts.{added-fits, added_full, add-append, in_place, past_end}
 use Rattle.line_body.specs.Held.{body_held}
 use Rattle.line_body.specs.Steps.{key_part, add_pair, add_tokens}
 use Rattle.line_body.proofs.Drafts.{tokens_append, tokens-text}
@@ -85,12 +85,12 @@ module _ (m : Line) where
       ∙ tokens-text (tokens_of m) ((ihave ++ (space ∷ [])) ++ hex_digits 7 m.fields.id) d
 
   -- group by group, as the code puts them
-  body-whole : (d : Draft)
+  pub body-whole : (d : Draft)
       → add_tokens (dst_token m ∷ []) (add_tokens (header_tokens m.fields.headers) (add_tokens (chosen stream) (add_tokens (chosen fragment) (add_tokens (chosen src) (add_tokens (chosen ttl) (add_tokens (chosen salt)
       (add_tokens (chosen payload) (added (hex_digits 7 m.fields.id) (added (ihave ++ (space ∷ [])) d))))))))) ≡ added (body_of m) d
   body-whole d = ap (λ (x : Draft). add_tokens (dst_token m ∷ []) (add_tokens (header_tokens m.fields.headers) x)) (all-choices _) ∙ all-tokens _ ∙ body-by d
 
-  payload-step : (d : Draft) → added (key_part key_fmt ++ 'p') (add_pair (key_part key_len) (decimal m.len) d) ≡ add_tokens (chosen payload) d
+  pub payload-step : (d : Draft) → added (key_part key_fmt ++ 'p') (add_pair (key_part key_len) (decimal m.len) d) ≡ add_tokens (chosen payload) d
   unfolding chosen add_tokens
   payload-step d = sym (add-append (key_part key_fmt) 'p' (added (decimal m.len) (added (key_part key_len) d)))
 
@@ -115,22 +115,17 @@ module _ (m : Line) where
           let k = leb-false (length w) 512 f in
           added_full w no_draft (lt-leb (0 + length w) (length blank) (omega (arith, length-replicate {A = ℕ} 512 0)))
 
-  pub printed : (a b c d e f g h i j k : Draft) → a ≡ added (ihave ++ (space ∷ [])) no_draft → b ≡ added (hex_digits 7 m.fields.id) a
-      → c ≡ add_pair (key_part key_len) (decimal m.len) b → d ≡ added (key_part key_fmt ++ 'p') c
-      → e ≡ add_tokens (chosen salt) d → f ≡ add_tokens (chosen ttl) e
-      → g ≡ add_tokens (chosen src) f → h ≡ add_tokens (chosen fragment) g → i ≡ add_tokens (chosen stream) h
-      → j ≡ add_tokens (header_tokens m.fields.headers) i → k ≡ add_tokens (dst_token m ∷ []) j → k ≡ body_held m
-  printed a b c d e f g h i j k is-a is_b is_c is-d is-e is_f is-g is-h is-i is-j is-k =
-      is-k
-      ∙ ap (add_tokens (dst_token m ∷ [])) (is-j
-      ∙ ap (add_tokens (header_tokens m.fields.headers)) (is-i
-      ∙ ap (add_tokens (chosen stream)) (is-h
-      ∙ ap (add_tokens (chosen fragment)) (is-g
-      ∙ ap (add_tokens (chosen src)) (is_f
-      ∙ ap (add_tokens (chosen ttl)) (is-e
-      ∙ ap (add_tokens (chosen salt)) (is-d
-      ∙ ap (added (key_part key_fmt ++ 'p')) is_c
-      ∙ payload-step b
-      ∙ ap (add_tokens (chosen payload)) (is_b ∙ ap (added (hex_digits 7 m.fields.id)) is-a))))))))
-      ∙ body-whole no_draft
-      ∙ held
+  -- the body that was put, as it is answered: blank, past the array's end
+  module _ {start : Draft} (none : start ≡ no_draft) {r : ℕ} {x : List ℕ} (a : Adds (added (body_of m)) start.bytes start.len r x) where
+    as-held : draft x r ≡ body_held m
+    unfolding draft
+    as-held =
+        a.draft-is (ap (λ (d : Draft). length d.bytes) none ∙ length-replicate {A = ℕ} 512 0)
+        ∙ ap (λ (d : Draft). added (body_of m) (draft d.bytes d.len)) none
+        ∙ held
+
+    pub body-long : 512 < r → full_draft ≡ body_held m
+    body-long h = sym (past_end x r h) ∙ as-held
+
+    pub body-short : r ≤ 512 → record { bytes = x; len = r } ≡ body_held m
+    body-short h = sym (in_place x r h) ∙ as-held

@@ -15,31 +15,31 @@ use Rattle.line_draft.proofs.Draft.put_chk.Kinds as put-chk-kinds
 use Rattle.line_draft.proofs.Draft.put_chk.Reads as put-chk-reads
 
 pub put-one : One 2 put-kinds.ps put-kinds.r put-reads.Post
-put-one κs a x y v w p q = (refl, λ i. ((p ∙ sym q) i, (tt, tt)))
+put-one κs a x y v w p q = (refl, λ i. (record { bytes = (p.1 ∙ sym q.1) i; len = (p.0 ∙ sym q.0) i }, (tt, tt)))
 
 pub put-free : Free 2 put-kinds.ps put-reads.Pre
 put-free κs a = tt
 
 pub put-number-one : One 1 put-number-kinds.ps put-number-kinds.r put-number-reads.Post
-put-number-one κs a x y v w p q = (refl, λ i. ((p ∙ sym q) i, (tt, tt)))
+put-number-one κs a x y v w p q = (refl, λ i. (record { bytes = (p.1 ∙ sym q.1) i; len = (p.0 ∙ sym q.0) i }, (tt, tt)))
 
 pub put-number-free : Free 1 put-number-kinds.ps put-number-reads.Pre
 put-number-free κs a = tt
 
 pub put-signed-one : One 1 put-signed-kinds.ps put-signed-kinds.r put-signed-reads.Post
-put-signed-one κs a x y v w p q = (refl, λ i. ((p ∙ sym q) i, (tt, tt)))
+put-signed-one κs a x y v w p q = (refl, λ i. (record { bytes = (p.1 ∙ sym q.1) i; len = (p.0 ∙ sym q.0) i }, (tt, tt)))
 
 pub put-signed-free : Free 1 put-signed-kinds.ps put-signed-reads.Pre
 put-signed-free κs a = tt
 
 pub put-id-one : One 1 put-id-kinds.ps put-id-kinds.r put-id-reads.Post
-put-id-one κs a x y v w p q = (refl, λ i. ((p ∙ sym q) i, (tt, tt)))
+put-id-one κs a x y v w p q = (refl, λ i. (record { bytes = (p.1 ∙ sym q.1) i; len = (p.0 ∙ sym q.0) i }, (tt, tt)))
 
 pub put-id-free : Free 1 put-id-kinds.ps put-id-reads.Pre
 put-id-free κs a = tt
 
 pub put-chk-one : One 1 put-chk-kinds.ps put-chk-kinds.r put-chk-reads.Post
-put-chk-one κs a x y v w p q = (refl, λ i. ((p ∙ sym q) i, (tt, tt)))
+put-chk-one κs a x y v w p q = (refl, λ i. (record { bytes = (p.1 ∙ sym q.1) i; len = (p.0 ∙ sym q.0) i }, (tt, tt)))
 
 pub put-chk-free : Free 1 put-chk-kinds.ps put-chk-reads.Pre
 put-chk-free κs a = tt

@@ -65,9 +65,9 @@ fn gather(
     q: Singles,
     fragment: Option<Fragment>,
     stream: Option<Stream>,
-    headers: Headers,
+    headers: &Headers,
 ) -> Envelope
-    ensures { result ≡ gather_of id t.now slots q fragment stream headers }
+    ensures { result ≡ gather_of id t.now slots q fragment stream headers.now }
 {
     let from = slots[names::SRC];
     let src = line_places::value(t, from).map(|s| envelope::call_text(s));
@@ -79,22 +79,33 @@ fn gather(
         src,
         fragment,
         stream,
-        headers,
+        headers: *headers,
         dst: envelope::address_text(dst),
     }
 }
 
-// What the tokens say; nothing where the rules of a key do not hold.
+// What the tokens say; nothing where the rules of a key do not hold. What a `?` hands on is a whole answer, in room of its own that is cleared
+// at the start, so each test leaves by a `return`.
 pub fn read_values(id: u32, t: &[u8]) -> Option<Values>
     ensures { result ≡ values_of id t.now }
 {
-    let places = line_places::read_places(t)?;
+    let Some(places) = line_places::read_places(t) else {
+        return None;
+    };
     let slots = places.slots;
-    let p = payload(t, slots)?;
-    let q = singles(t, slots)?;
-    let f = fragment(t, slots)?;
-    let m = stream(t, slots)?;
-    let fields = gather(id, t, slots, q, f, m, places.headers);
+    let Some(p) = payload(t, slots) else {
+        return None;
+    };
+    let Some(q) = singles(t, slots) else {
+        return None;
+    };
+    let Some(f) = fragment(t, slots) else {
+        return None;
+    };
+    let Some(m) = stream(t, slots) else {
+        return None;
+    };
+    let fields = gather(id, t, slots, q, f, m, &places.headers);
     Some(Values {
         len: p.len,
         deflated: p.deflated,

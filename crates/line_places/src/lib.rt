@@ -69,7 +69,7 @@ pub fn value(t: &[u8], p: Option<Place>) -> Option<&[u8]>
 {
     let p = p?;
     if t.len() < p.start {
-        return Some(&[]);
+        return Some(&t[..0]);
     }
     Some(lengths::part(&t[p.start..], p.len))
 }

@@ -19,9 +19,9 @@ use Rattle.line_refusals.specs.Order.{refuses_writing, line_good}
 use Rattle.line_refusals.proofs.Clear.{cleared}
 use Rattle.line.specs.Writing.{body_of, chk_token, print_of, line_written, message_good, write_refusal}
 use Rattle.line.specs.declared.Line.{Line}
-use Rattle.line_draft.specs.Drafts.{no_draft, full_draft, added}
+use Rattle.line_draft.specs.Drafts.{no_draft, full_draft, draft, added, Adds}
 use Rattle.line_draft.specs.declared.Draft.{Draft}
-use Rattle.line_draft.proofs.Drafts.{added-fits, added_full, add-append, stays-full}
+use Rattle.line_draft.proofs.Drafts.{added-fits, added_full, add-append, stays-full, in_place, past_end}
 use Rattle.line_body.specs.Held.{body_held}
 use Rattle.line_body.specs.Steps.{key_part}
 use Rattle.line_body.proofs.Whole.{held}
@@ -68,7 +68,7 @@ module _ (w : List ℕ) (d : Draft) (e : d ≡ added w no_draft) where
           let b : d.bytes ≡ w ++ drop (length w) blank = ap (λ (x : Draft). x.bytes) g ∙ placed-in w 0 blank k ∙ ap (λ (i : ℕ). w ++ drop i blank) z in
           record { len_is = n; text-is = ap (λ (i : ℕ). take i d.bytes) n ∙ ap (take (length w)) b ∙ take_at w (drop (length w) blank) (length w) refl }
 
-module _ (m : Line) (b : Draft) (is_b : b ≡ body_held m) (d : Draft) (is-d : d ≡ added (chk_behind b) b) where
+module _ (m : Line) (b : Draft) (is_b : b ≡ body_held m) (long-b : length b.bytes ≡ 512) (d : Draft) (is-d : Adds (added (chk_behind b)) b.bytes b.len d.len d.bytes) where
   body-put : b ≡ added (body_of m) no_draft
   body-put = is_b ∙ sym (held m)
 
@@ -76,28 +76,33 @@ module _ (m : Line) (b : Draft) (is_b : b ≡ body_held m) (d : Draft) (is-d : d
   behind = spaced (word_of (chk_token (body_of m)) ∷ [])
 
   -- a body that is too long stays too long
-  pub printed : d ≡ added (print_of m) no_draft
+  pub printed : draft d.bytes d.len ≡ added (print_of m) no_draft
   unfolding print_of
-  printed = go (b.len ≤? 512) refl
+  printed = is-d.draft-is long-b ∙ go (b.len ≤? 512) refl
     where
-      go : (t : Bool) → (b.len ≤? 512) ≡ t → d ≡ added (body_of m ++ behind) no_draft
+      go : (t : Bool) → (b.len ≤? 512) ≡ t → added (chk_behind b) (draft b.bytes b.len) ≡ added (body_of m ++ behind) no_draft
       go true f =
-          is-d
-          ∙ ap (λ (t : List ℕ). added (chk_text t) b) (holds-short (body_of m) b body-put (leb-true b.len 512 f)).text-is
-          ∙ ap (added (chk_text (body_of m))) body-put
+          let k = leb-true b.len 512 f in
+          ap (added (chk_behind b)) (in_place b.bytes b.len k ∙ body-put)
+          ∙ ap (λ (t : List ℕ). added (chk_text t) (added (body_of m) no_draft)) (holds-short (body_of m) b body-put k).text-is
           ∙ add-append (body_of m) (chk_text (body_of m)) no_draft
           ∙ ap (λ (s : List ℕ). added (body_of m ++ s) no_draft) (sym (chk-is (body_of m)))
       go false f =
-          let h = holds-long (body_of m) b body-put (leb-false b.len 512 f) in
-          let full : b ≡ full_draft = body-put ∙ added_full (body_of m) no_draft (lt-leb (0 + length (body_of m)) (length {A = ℕ} (replicate 512 0)) (omega (arith, length-replicate {A = ℕ} 512 0))) in
-          is-d
-          ∙ ap (added (chk_behind b)) full
+          let k = leb-false b.len 512 f in
+          let h = holds-long (body_of m) b body-put k in
+          ap (added (chk_behind b)) (past_end b.bytes b.len k)
           ∙ stays-full (chk_behind b)
           ∙ sym (added_full (body_of m ++ behind) no_draft (lt-leb (0 + length (body_of m ++ behind)) (length {A = ℕ} (replicate 512 0)) (omega (arith, length-append (body_of m) behind, length-replicate {A = ℕ} 512 0))))
 
+  line-short : d.len ≤ 512 → Holds (print_of m) d
+  line-short h = holds-short (print_of m) d (sym (in_place d.bytes d.len h) ∙ printed) h
+
+  line_long : 512 < d.len → 512 < length (print_of m)
+  line_long h = holds-long (print_of m) full_draft (sym (past_end d.bytes d.len h) ∙ printed) (omega arith)
+
 -- ---- the answer
 
-module _ (m : Line) (l : List ℕ) (v : Bool) (is-v : v ≡ envelope m.fields) (b : Draft) (is_b : b ≡ body_held m) (d : Draft) (is-d : d ≡ added (chk_behind b) b)
+module _ (m : Line) (l : List ℕ) (v : Bool) (is-v : v ≡ envelope m.fields) (b : Draft) (is_b : b ≡ body_held m) (long-b : length b.bytes ≡ 512) (d : Draft) (is-d : Adds (added (chk_behind b)) b.bytes b.len d.len d.bytes)
     (k : ℕ) (is-k : k ≡ refuses_writing (line_good v m.len d.len) m.len (d.len + 1) (length l)) where
   abbrev n : ℕ
   n = d.len
@@ -106,10 +111,10 @@ module _ (m : Line) (l : List ℕ) (v : Bool) (is-v : v ≡ envelope m.fields) (
   Left r out = (r ≡ write_answer m l) × (out ≡ write_left m l)
 
   holds : n ≤ 512 → Holds (print_of m) d
-  holds = holds-short (print_of m) d (printed m b is_b d is-d)
+  holds = line-short m b is_b long-b d is-d
 
   too_long : 512 < n → 512 < length (print_of m)
-  too_long = holds-long (print_of m) d (printed m b is_b d is-d)
+  too_long = line_long m b is_b long-b d is-d
 
   abbrev valid : Bool
   valid = envelope m.fields

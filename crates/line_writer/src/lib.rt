@@ -2,7 +2,7 @@
 #![tactic(auto)]
 
 ghost use Rattle.std.specs.Prelude.{◌≡◌};
-ghost use Rattle.line_draft.specs.Drafts.{added};
+ghost use Rattle.line_draft.specs.Drafts.{added, Adds};
 ghost use Rattle.line_writer.specs.Answer.{says, write_answer, write_left};
 ghost use Rattle.line_writer.specs.Steps.{chk_behind};
 
@@ -12,7 +12,7 @@ use refusals::Refusal;
 
 // ` chk=` and the check of the bytes before it; `chk` always.
 fn add_chk(line: &mut Draft)
-    ensures { line.new ≡ added (chk_behind line.old) line.old }
+    ensures { Adds (added (chk_behind line.old)) line.old.bytes line.old.len line.new.len line.new.bytes }
 {
     let chk = crc16::crc(lengths::part(&line.bytes, line.len));
     line.put(b" chk=");

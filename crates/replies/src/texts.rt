@@ -109,7 +109,7 @@ pub(crate) fn token(s: &[u8]) -> &[u8]
     ensures { result.now ≡ error_token s.now }
 {
     if s.len() < 6 {
-        return &[];
+        return &s[..0];
     }
     tokens::before_byte(&s[6..], b' ')
 }

@@ -28,13 +28,14 @@ use Rattle.slots.specs.Slot.{slot_for}
 use Rattle.slot_rules.specs.declared.Ruled.{Ruled}
 use Rattle.slot_rules.specs.Slots.{place_of, test_of}
 use Rattle.lookups.specs.Lookup.{Target}
-use Rattle.lookups.specs.Lookup.{target_says, open_at, standing_of, known_target, free_in, free_target, offer_target}
+use Rattle.lookups.specs.Lookup.{target_says, open_at, standing_of, standing_by, known_target, free_in, free_target, offer_target}
 use Rattle.streams.specs.declared.Table.{Table}
 use Rattle.slot_rules.specs.Slots.{Found}
 use Rattle.lookups.specs.Lookup.{Lookup}
 use Rattle.streams.specs.Table.{is_free, keeps_slot, has_key, distinct, keeps_table, keeps_slots, first, open_count, slot_at, with_slot}
 use Rattle.streams.specs.Calls.{place, look_up, opens, offer_by, offer, row_at}
 use Rattle.streams.specs.Steps.{Within}
+use Rattle.slot_rules.proofs.Search.{first-bound}
 use Rattle.streams.proofs.Places.{place_at, first-place, open-key, not_free}
 
 -- a table that keeps the rules
@@ -112,7 +113,8 @@ module _ (t : Table) (named : Named) where
         into : length t.slots ≡ 32 → (f : Found) → f ≡ first is_free 0 t.slots → Ends (free_target (place_of f)) (opens t k (offer_of (row_of fresh) m time) f)
         into h (Found.At i) q =
             let p = place_at (first-place is_free i t.slots q) in
-            (omega (arith, h, p.1), ap (offer_at t m time i) (if_no (slot_at t i).is_open (slot_at t i) (record { is_open = true; key = k; row = row_of fresh }) (not_free (slot_at t i).is_open p.0)))
+            let b : i < 32 = omega (arith, h, p.1) in
+            rw (lt-ltb i 32 b) (b, ap (offer_at t m time i) (if_no (slot_at t i).is_open (slot_at t i) (record { is_open = true; key = k; row = row_of fresh }) (not_free (slot_at t i).is_open p.0)))
         into h Found.Nothing q = refl
 
         new : length t.slots ≡ 32 → (b : Bool) → Ends (if b then Target.Refused stale else free_target free_at) (if b then refuse stale t else opens t k (offer_of (row_of fresh) m time) (first is_free 0 t.slots))
@@ -146,9 +148,10 @@ key-or : (n : Result Key Refusal) → result_unwrap_or n no_key ≡ (named_says 
 key-or (Ok k) = refl
 key-or (Err why) = refl
 
-found-at : (f : Found) → open_at (place_of f) ≡ place f
-found-at (Found.At i) = refl
-found-at Found.Nothing = refl
+-- a place that was found is one of the 32
+found-at : (p : Slot → Bool) (l : List Slot) → length l ≡ 32 → (f : Found) → f ≡ first p 0 l → open_at (place_of f) ≡ place f
+found-at p l h (Found.At i) q = if_yes _ _ _ (lt-ltb i 32 (omega (arith, h, first-bound p 0 i l q)))
+found-at p l h Found.Nothing q = refl
 
 -- the key that the slots are searched for, and what was found
 module _ (t : Table) (n : Result Key Refusal) (d k : Key) (p : d ≡ no_key) (q : k ≡ result_unwrap_or n d) where
@@ -163,38 +166,122 @@ pub within-known : (t : Table) (named : Named) (x : Result ℕ Refusal) → targ
 within-known t named (Ok i) e = known-bound t named i e
 within-known t named (Err why) e = tt
 
-module _ (t : Table) (n : Result Key Refusal) (r : Option Ruled) (test-key : r ≡ test_of t.slots (named_says n).key) where
-  -- it stands for the key
-  pub look_is : standing_of r (result_err n) ≡ look_up t (named_says n)
-  unfolding look_up test_of
-  look_is = ap (λ (r : Option Ruled). standing_of r (result_err n)) test-key ∙ go n (keeps_table t)
+-- the number of what refuses the names, 0 where nothing does
+abbrev pub number_in : Option Refusal → ℕ
+number_in None = 0
+number_in (Some why) = number_of why
+
+module _ (t : Table) (named : Named) (refused : Option Refusal) (told : named.refusal ≡ number_in refused) where
+  ruled : Option Ruled
+  ruled = Some (record { found = place_of (first (has_key named.key) 0 t.slots); free = free_at t named; rows = open_count t.slots })
+
+  -- what the code looked up stands for the key
+  pub look_is : (r : Option Ruled) → r ≡ test_of t.slots named.key → standing_of r refused ≡ look_up t named
+  unfolding look_up test_of ruled
+  look_is r e = ap (λ (r : Option Ruled). standing_of r refused) e ∙ go (keeps_table t) refl refused told
     where
-      found : Key → Option Ruled
-      found k = Some (record { found = place_of (first (has_key k) 0 t.slots); free = place_of (first is_free 0 t.slots); rows = open_count t.slots })
+      f : Found
+      f = first (has_key named.key) 0 t.slots
 
-      go : (n : Result Key Refusal) (b : Bool)
-          → standing_of (if no b then None else found (named_says n).key) (result_err n)
-          ≡ (if no b then Lookup.Refused state_broken else if 0 <? (named_says n).refusal then Lookup.Refused (named_says n).refusal else place (first (has_key (named_says n).key) 0 t.slots))
-      go n false = refl
-      go (Ok k) true = found-at (first (has_key k) 0 t.slots)
-      go (Err why) true = sym (if_yes _ _ _ (lt-ltb 0 (number_of why) (omega (arith, not-0 why))))
+      go : (b : Bool) → keeps_table t ≡ b → (x : Option Refusal) → named.refusal ≡ number_in x
+          → standing_of (if no b then None else ruled) x ≡ (if no b then Lookup.Refused state_broken else if 0 <? named.refusal then Lookup.Refused named.refusal else place f)
+      go false k x q = refl
+      go true k None q = rw q (found-at (has_key named.key) t.slots (kept t k).long f refl)
+      go true k (Some why) q = rw q (sym (if_yes _ _ _ (lt-ltb 0 (number_of why) (omega (arith, not-0 why)))))
 
-  pub known_is : known_target (standing_of r (result_err n)) ≡ known_target (look_up t (named_says n))
-  known_is = ap known_target look_is
-
-  pub offer-target : (number : ℕ) → offer_target number (free_in r) (standing_of r (result_err n)) ≡ offer_target number (free_at t (named_says n)) (look_up t (named_says n))
-  unfolding test_of
-  offer-target number = go (keeps_table t) test-key ∙ ap (offer_target number free) look_is
+  pub offer-target : (r : Option Ruled) (number : ℕ) → r ≡ test_of t.slots named.key → offer_target number (free_in r) (standing_of r refused) ≡ offer_target number (free_at t named) (look_up t named)
+  unfolding test_of ruled
+  offer-target r number e = go (keeps_table t) e ∙ ap (offer_target number (free_at t named)) (look_is r e)
     where
-      free : Option ℕ
-      free = place_of (first is_free 0 t.slots)
-
-      is : Bool → Option Ruled
-      is b = if no b then None else Some (record { found = place_of (first (has_key (named_says n).key) 0 t.slots); free = free; rows = open_count t.slots })
-
-      go : (b : Bool) → r ≡ is b → offer_target number (free_in r) (standing_of r (result_err n)) ≡ offer_target number free (standing_of r (result_err n))
+      go : (b : Bool) → r ≡ (if no b then None else ruled) → offer_target number (free_in r) (standing_of r refused) ≡ offer_target number (free_at t named) (standing_of r refused)
       go false q = rw q refl
       go true q = rw q refl
+
+-- the same of any number: what the tests came to, a place as a number, 32 for none
+abbrev pub place_number : Option ℕ → ℕ
+place_number None = 32
+place_number (Some i) = i
+
+abbrev pub good_in : Option Ruled → Bool
+good_in None = false
+good_in (Some r) = true
+
+abbrev pub found_in : Option Ruled → Option ℕ
+found_in None = None
+found_in (Some r) = r.found
+
+module _ (t : Table) (named : Named) where
+  number-at : (p : Slot → Bool) (l : List Slot) → length l ≡ 32 → (f : Found) → f ≡ first p 0 l → open_at (Some (place_number (place_of f))) ≡ place f
+  number-at p l h (Found.At i) q = if_yes _ _ _ (lt-ltb i 32 (omega (arith, h, first-bound p 0 i l q)))
+  number-at p l h Found.Nothing q = refl
+
+  by_test : Bool → Option Ruled
+  by_test b = if no b then None else Some (record { found = place_of (first (has_key named.key) 0 t.slots); free = free_at t named; rows = open_count t.slots })
+
+  pub look_by_number : (r : Option Ruled) → r ≡ test_of t.slots named.key → standing_by (good_in r) named.refusal (place_number (found_in r)) ≡ look_up t named
+  unfolding look_up test_of by_test
+  look_by_number r e = ap (λ (x : Option Ruled). standing_by (good_in x) named.refusal (place_number (found_in x))) e ∙ go (keeps_table t) refl
+    where
+      f : Found
+      f = first (has_key named.key) 0 t.slots
+
+      go : (b : Bool) → keeps_table t ≡ b
+          → standing_by (good_in (by_test b)) named.refusal (place_number (found_in (by_test b))) ≡ (if no b then Lookup.Refused state_broken else if 0 <? named.refusal then Lookup.Refused named.refusal else place f)
+      go false k = refl
+      go true k = ap (λ (l : Lookup). if 0 <? named.refusal then Lookup.Refused named.refusal else l) (number-at (has_key named.key) t.slots (kept t k).long f refl)
+
+  same-free : (o : Option ℕ) (number : ℕ) (l : Lookup) → offer_target number (Some (place_number o)) l ≡ offer_target number o l
+  same-free None number (Lookup.Refused n) = refl
+  same-free None number (Lookup.Open i) = refl
+  same-free None number Lookup.Unknown = refl
+  same-free (Some i) number l = refl
+
+  pub offer_by_number : (r : Option Ruled) (number : ℕ) → r ≡ test_of t.slots named.key
+      → offer_target number (Some (place_number (free_in r))) (standing_by (good_in r) named.refusal (place_number (found_in r))) ≡ offer_target number (free_at t named) (look_up t named)
+  unfolding test_of by_test
+  offer_by_number r number e = go (keeps_table t) e ∙ ap (offer_target number (free_at t named)) (look_by_number r e)
+    where
+      l : Lookup
+      l = standing_by (good_in r) named.refusal (place_number (found_in r))
+
+      go : (b : Bool) → r ≡ by_test b → offer_target number (Some (place_number (free_in r))) l ≡ offer_target number (free_at t named) l
+      go false q = rw q refl
+      go true q = ap (λ (x : Option Ruled). offer_target number (Some (place_number (free_in x))) l) q ∙ same-free (free_at t named) number l
+
+  -- ---- a take, a force or a close, from its target
+
+  -- the target is an open row, or the call is refused
+  module _ (f : Lookup → Outcome Table) (a : (n : ℕ) → f (Lookup.Refused n) ≡ refuse n t) (u : f Lookup.Unknown ≡ refuse no_such_stream t) where
+    refused-by : (l : Lookup) (n : ℕ) → Target.Refused n ≡ known_target l → refuse n t ≡ f l
+    refused-by (Lookup.Refused m) n e = let z : n ≡ m = cc in rw z (sym (a m))
+    refused-by (Lookup.Open i) n e = let z : ◌≡◌ {A = ℕ} 0 1 = cc in absurd (omega arith)
+    refused-by Lookup.Unknown n e = let z : n ≡ no_such_stream = cc in rw z (sym u)
+
+    pub not_known : (n : ℕ) → Target.Refused n ≡ known_target (look_up t named) → refuse n t ≡ f (look_up t named)
+    not_known = refused-by (look_up t named)
+
+    open_by : (l : Lookup) (i : ℕ) → Target.At i ≡ known_target l → Lookup.Open i ≡ l
+    open_by (Lookup.Refused m) i e = let z : ◌≡◌ {A = ℕ} 0 1 = cc in absurd (omega arith)
+    open_by (Lookup.Open j) i e = let z : i ≡ j = cc in ap Lookup.Open z
+    open_by Lookup.Unknown i e = let z : ◌≡◌ {A = ℕ} 0 1 = cc in absurd (omega arith)
+
+    pub is_known : (i : ℕ) → Target.At i ≡ known_target (look_up t named) → f (Lookup.Open i) ≡ f (look_up t named)
+    is_known i e = ap f (open_by (look_up t named) i e)
+
+said : (n : Result Key Refusal) → (named_says n).refusal ≡ number_in (result_err n)
+said (Ok k) = refl
+said (Err why) = refl
+
+-- the same, of what `keys::name` answered
+module _ (t : Table) (n : Result Key Refusal) (r : Option Ruled) (test-key : r ≡ test_of t.slots (named_says n).key) where
+  pub look-said : standing_of r (result_err n) ≡ look_up t (named_says n)
+  look-said = look_is t (named_says n) (result_err n) (said n) r test-key
+
+  pub known_is : known_target (standing_of r (result_err n)) ≡ known_target (look_up t (named_says n))
+  known_is = ap known_target look-said
+
+  pub offer-said : (number : ℕ) → offer_target number (free_in r) (standing_of r (result_err n)) ≡ offer_target number (free_at t (named_says n)) (look_up t (named_says n))
+  offer-said number = offer-target t (named_says n) (result_err n) (said n) r number test-key
 
 -- ---- 40, or how many rows are open
 

@@ -35,7 +35,7 @@ pub fn after_byte(s: &[u8], c: u8) -> &[u8]
 {
     let n = bytes_before(s, c);
     if n == s.len() {
-        return &[];
+        return &s[..0];
     }
     &s[n + 1..]
 }

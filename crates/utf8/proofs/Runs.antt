@@ -116,6 +116,10 @@ pub passes : (s : List ℕ) (i : ℕ) (next : Option ℕ) (rs : List Range) → 
 passes s i None rs e p = e ∙ p
 passes s i (Some next) rs e p = (p.0, p.1, e ∙ p.2)
 
+-- a first byte of a character of two bytes, by its values alone
+pub two_bytes : (s : List ℕ) (i : ℕ) (next : Option ℕ) → i < length s → 0xC2 ≤ get_or s i 0 → get_or s i 0 ≤ 0xDF → Passed s (0x80 to 0xBF ∷ replicate 0 tail) (i + 1) (i + 1) next → Passed s [] i (i + 1) next
+two_bytes s i next h l u p = passes s i next _ (row-decides 1 refl refl s i h l u) p
+
 -- a byte more in front
 pub one_before : (s : List ℕ) (i : ℕ) (next : Option ℕ) (r : Range) (rs : List Range) → run (r ∷ rs) (drop i s) ≡ run rs (drop (i + 1) s) → Passed s rs (i + 1) (i + 1) next → Passed s (r ∷ rs) i i next
 one_before s i None r rs e p = e ∙ p

@@ -41,6 +41,7 @@ fn behind(s: &[u8], from: usize, low: u8, high: u8, count: usize) -> Option<usiz
 }
 
 // The character at the place `i`, whose first byte is above 0x7F.
+#[tactic(auto, using(crate::proofs::Runs::two_bytes))]
 pub(crate) fn character(s: &[u8], i: usize) -> Option<usize>
     requires { (i < length s.now) × (127 < get_or s.now i 0) }
     ensures { Passed s.now [] i (i + 1) result }

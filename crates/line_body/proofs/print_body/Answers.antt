@@ -1,20 +1,9 @@
--- Group by group, in the writer's order.
-use Prim.Native.Nat.{ℕ}
-use mathlib.Core.Path.{ap, ◌∙◌}
-use mathlib.Core.List.{[], ◌∷◌, ◌++◌}
-use Rattle.text.specs.Decimal.{decimal}
-use Rattle.names.specs.Reserved.{key_len}
-use Rattle.tokens.specs.Tokens.{space}
-use Rattle.line.specs.Reading.{ihave}
-use Rattle.line_draft.specs.Drafts.{added}
-use Rattle.line_body.specs.Steps.{key_part, add_pair}
-use Rattle.line_body.proofs.Whole.{printed}
+-- A body that does not fit is blank; else the bytes, then zeros.
+use Rattle.line_body.proofs.Whole.{body-long, body-short}
 use Rattle.line_body.proofs.print_body.Goals as goal
 
+pub returns-then-line-gt512 : goal.returns-then-line-gt512
+returns-then-line-gt512 c = body-long c.args.m c.new-line.ensures c.put_body.ensures c.if-line-gt512.true
+
 pub returns : goal.returns
-returns c =
-    printed c.args.m c.put.new.self c.put_id.new.self c.number.new.line c.put-2.new.self c.salt.new.line c.ttl.new.line c.src.new.line c.fragment.new.line c.stream.new.line c.headers.new.line c.dst.new.line
-    (c.put.ensures ∙ ap (added (ihave ++ (space ∷ []))) c.new-line.ensures)
-    c.put_id.ensures
-    (c.number.ensures ∙ ap (λ (v : ℕ). add_pair (key_part key_len) (decimal v) c.put_id.new.self) c.from.ensures)
-    c.put-2.ensures c.salt.ensures c.ttl.ensures c.src.ensures c.fragment.ensures c.stream.ensures c.headers.ensures c.dst.ensures
+returns c = body-short c.args.m c.new-line.ensures c.put_body.ensures c.if-line-gt512.false

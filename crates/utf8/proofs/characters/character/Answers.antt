@@ -4,9 +4,6 @@ use borrow.Author.Rules.{rules}
 use Rattle.utf8.proofs.Runs.{row-decides, by-none, passes}
 use Rattle.utf8.proofs.characters.character.Goals as goal
 
-pub returns-in-194-to-223 : goal.returns-in-194-to-223
-returns-in-194-to-223 c = passes _ c.args.i _ _ (row-decides 1 refl refl c.args.s.now c.args.i (search rules) (search rules) (search rules)) c.behind-in-194-to-223.ensures
-
 pub returns-in-224 : goal.returns-in-224
 returns-in-224 c = passes _ c.args.i _ _ (row-decides 2 refl refl c.args.s.now c.args.i (search rules) (search rules) (search rules)) c.behind.ensures
 
